@@ -41,7 +41,7 @@ use Rattle.px_core.specs.Grouped.{channels_there, IsGroupOf, paid}
 use Rattle.px_core.specs.Consistency.{IsFedAt, GoesTo, GoesThere, IsInput, IsConsistent, IsRising, AllAbove}
 use Rattle.px_core.specs.Lawful.{IsReleased, AreReleased, AreLawfulOwing}
 use Rattle.px_core.specs.Notice.{is_on, owner_of, arrival_between, arrival_at, arrived_with}
-use Rattle.px_core.specs.Parcels.{carried_by}
+use Rattle.px_core.specs.Parcels.{Brought, moved_stream, carried_by}
 use Rattle.px_state.specs.Outcome.{CoreOutcome}
 use Rattle.px_core.proofs.ListLaws.{all_weaken, all_drop, found_all, found_test, same_passed}
 use Rattle.px_core.proofs.EntryLaws.{rising_change}
@@ -54,29 +54,30 @@ use Rattle.px_core.proofs.CreateLaws.{sink_rules, own_fits}
 
 -- ---- an outcome whose first change is an arrival
 
-pub record IsArrival {P : Type 0} (spec_of : P → SampleSpec) (state : State P) (outcome : CoreOutcome P) (given : List P) : Type 0 where
+pub record IsArrival {P : Type 0} (spec_of : P → SampleSpec) (state : State P) (outcome : CoreOutcome P) (given : List (Brought P)) : Type 0 where
   pub index : InputId
   pub message : Msg P
   pub behind : List (Change P)
   pub changes : outcome.changes ≡ Arrives index message ∷ behind
-  -- the parcel is the one that was given up
+  -- it brings the stream that was given up, of the same input and in the same parcel
   pub carried : given ≡ carried_by message
   pub to : SinkId
   pub after : State P
   pub arrives : changed state (Arrives index message) ≡ after
   pub follows : Follows spec_of state after
   pub connections : after.connections ≡ state.connections
+  pub made : after.inputs_made ≡ state.inputs_made
   pub posted : after.posted ≡ posted_to to.0 message state.posted
   pub owed : List SinkId
   pub grouped : Grouped owed after
   pub lawful : AreLawfulOwing owed after behind
   pub still : Still (committed after behind)
 
-pub arrival_committed : {P : Type 0} (spec_of : P → SampleSpec) (state : State P) (outcome : CoreOutcome P) (given : List P) (a : IsArrival spec_of state outcome given) → committed state outcome.changes ≡ committed a.after a.behind
+pub arrival_committed : {P : Type 0} (spec_of : P → SampleSpec) (state : State P) (outcome : CoreOutcome P) (given : List (Brought P)) (a : IsArrival spec_of state outcome given) → committed state outcome.changes ≡ committed a.after a.behind
 arrival_committed {P} spec_of state outcome given a = ap (committed state) a.changes ∙ ap (λ (s : State P). committed s a.behind) a.arrives
 
 -- an outcome is sound where it is lawful, or an arrival
-abbrev pub IsSound : {P : Type 0} → (P → SampleSpec) → State P → CoreOutcome P → List P → Type 0
+abbrev pub IsSound : {P : Type 0} → (P → SampleSpec) → State P → CoreOutcome P → List (Brought P) → Type 0
 IsSound spec_of state outcome given = IsLawful state outcome ⊎ IsArrival spec_of state outcome given
 
 -- ---- inputs by their index, where one comes to another sink
@@ -375,7 +376,7 @@ module _ {P : Type 0} (spec_of : P → SampleSpec) (state : State P) (h : IsCons
         (drops_all (IsDelayed state.inputs) waited x.index state.delayed h.still)
         (none_left waited x.index state.delayed refl)))
 
-    arrival_is : (outcome : CoreOutcome P) → outcome.changes ≡ Arrives x.index message ∷ later x (detached x.index from) to joined state.inputs waited → IsArrival spec_of state outcome (parcel ∷ [])
+    arrival_is : (outcome : CoreOutcome P) → outcome.changes ≡ Arrives x.index message ∷ later x (detached x.index from) to joined state.inputs waited → IsArrival spec_of state outcome (moved_stream x.index.0 parcel ∷ [])
     arrival_is outcome e = record {
       index = x.index;
       message = message;
@@ -390,6 +391,7 @@ module _ {P : Type 0} (spec_of : P → SampleSpec) (state : State P) (h : IsCons
         held = brought_held to state.inputs x here moves left;
       };
       connections = refl;
+      made = refl;
       posted = refl;
       owed = x.sink ∷ to ∷ [];
       grouped = arrived_grouped [] state.sinks state.inputs state.groups x to here h.grouped;
@@ -397,7 +399,7 @@ module _ {P : Type 0} (spec_of : P → SampleSpec) (state : State P) (h : IsCons
       still = in_the_end;
     }
 
-  pub arrival_sound : IsSound spec_of state (arrived_with x.index parcel (arrival_at state to x)) (parcel ∷ [])
+  pub arrival_sound : IsSound spec_of state (arrived_with x.index parcel (arrival_at state to x)) (moved_stream x.index.0 parcel ∷ [])
   arrival_sound = by (slice_get state.sinks to.0) refl (slice_get state.groups x.sink.0) refl (slice_get state.groups to.0) refl
     where
       owner : Option Connection
@@ -405,13 +407,13 @@ module _ {P : Type 0} (spec_of : P → SampleSpec) (state : State P) (h : IsCons
 
       inner : (s : SinkSpec) → slice_get state.sinks to.0 ≡ Some s → (from : FlatGroup) → slice_get state.groups x.sink.0 ≡ Some from → (group : FlatGroup) → slice_get state.groups to.0 ≡ Some group
           → (o : Option Member) → (r : Option (List ℕ)) → feed_to x s.map ≡ r
-          → IsSound spec_of state (arrived_with x.index parcel (arrival_by x o r from group (target_of to s) owner state.inputs (length (delayed_of state.delayed x.index)))) (parcel ∷ [])
+          → IsSound spec_of state (arrived_with x.index parcel (arrival_by x o r from group (target_of to s) owner state.inputs (length (delayed_of state.delayed x.index)))) (moved_stream x.index.0 parcel ∷ [])
       inner s there from leaves group joins None r fed = inl tt
       inner s there from leaves group joins (Some m) None fed = inl tt
       inner s there from leaves group joins (Some m) (Some feed) fed = inr (arrival_is s there from group leaves joins m feed fed _ refl)
 
       by : (o : Option SinkSpec) → slice_get state.sinks to.0 ≡ o → (f : Option FlatGroup) → slice_get state.groups x.sink.0 ≡ f → (g : Option FlatGroup) → slice_get state.groups to.0 ≡ g
-          → IsSound spec_of state (arrived_with x.index parcel (arrival_between state x (option_map (target_of to) o) f g)) (parcel ∷ [])
+          → IsSound spec_of state (arrived_with x.index parcel (arrival_between state x (option_map (target_of to) o) f g)) (moved_stream x.index.0 parcel ∷ [])
       by None e f ef g eg = inl tt
       by (Some s) e None ef g eg = inl tt
       by (Some s) e (Some from) ef None eg = inl tt

@@ -1,6 +1,6 @@
 -- The changes of CREATE are lawful.
 use Rattle.std.proofs.Common.{◌≡◌, ℕ, zero, suc, ◌<◌, ◌≤◌, List, [], ◌∷◌, ◌++◌, length, min, max, Option, Some, None, Bool, true, false, refl, ap, sym, subst, ◌∙◌, arith, cond}
-use Rattle.std.specs.Prelude.{◌+◌, ◌-◌, ◌*◌, ◌/◌, ◌≢◌, not, nat_eq, nat_lt, nat_le, slice_get, slice_index, unwrap_or, IsSome}
+use Rattle.std.specs.Prelude.{◌+◌, ◌-◌, ◌*◌, ◌/◌, ◌≢◌, not, nat_eq, nat_lt, nat_le, slice_get, slice_index, unwrap_or, IsSome, MatchOption}
 use Rattle.std.specs.List.{list_all}
 use Rattle.std.specs.Option.{option_map}
 use Rattle.std.proofs.lemmas.Bool.{cond_both, eqb-true, eqb-false, leb-true, ltb-true, and_parts, not-true, agree_below_at}
@@ -23,7 +23,7 @@ use Rattle.px_msg.specs.Repair.{UNSET, MAXLENGTH, repaired, frames_asked, betwee
 use Rattle.px_msg.specs.View.{sample_spec}
 use Rattle.px_outcome.specs.declared.input.Connection.{Connection}
 use Rattle.px_outcome.specs.declared.input.Input.{Input}
-use Rattle.px_state.specs.State.{State, is_settled, settled_on, bound_for}
+use Rattle.px_state.specs.State.{State, connection_of, is_settled, settled_on, bound_for}
 use Rattle.px_state.specs.Change.{changed}
 use Rattle.px_outcome.specs.declared.change.Change.TheVariants.{Made}
 use Rattle.px_outcome.specs.declared.target.Target.{Target}
@@ -46,6 +46,7 @@ use Rattle.px_sinks.specs.Sinks.{group_of, group_named}
 use Rattle.px_core.proofs.HandledLaws.{Each, each_by}
 use Rattle.px_sinks.proofs.Sinks.{IsThere}
 use Rattle.px_core.specs.Consistency.{IsInput, IsConsistent, IsRising}
+use Rattle.px_core.specs.Indexed.{IsNextStream}
 use Rattle.px_core.specs.Lawful.{IsNew}
 use Rattle.px_core.proofs.ListLaws.{all_weaken}
 use Rattle.px_core.proofs.EntryLaws.{rising_push}
@@ -200,7 +201,7 @@ joined_is sink s inputs a feed x group on count is = record {
 
 -- ---- the handler
 
-module _ {P : Type 0} (spec_of : P → SampleSpec) (state : State P) (h : IsConsistent spec_of state) (me : Connection) (tag : ℕ) (named : Named) (a : CreateFields) (outcome : CoreOutcome P)
+module _ {P : Type 0} (spec_of : P → SampleSpec) (state : State P) (h : IsConsistent spec_of state) (me : Connection) (here : connection_of state.connections me.conn ≡ Some me) (tag : ℕ) (named : Named) (a : CreateFields) (outcome : CoreOutcome P)
     (made : IsCreated state.inputs state.inputs_made me tag named (group_named state.groups named) a outcome) (it : IsThere state.sinks made.sink) where
   abbrev x : Input
   x = input_made state.inputs_made me made.sink a
@@ -257,6 +258,9 @@ module _ {P : Type 0} (spec_of : P → SampleSpec) (state : State P) (h : IsCons
     brings = λ s e. (refl, refl, new_fits made.sink s (same s e) a asked made.feed (own_factors after x.index) feeds (fit s e) state.inputs_made);
   }
 
+  next : IsNextStream state.connections x (me.streams + 1)
+  next = record { next = subst (λ (o : Option Connection). MatchOption o ⊥ (λ c. me.streams ≡ c.streams)) (sym here) refl; counted = refl; client = subst (λ (o : Option Connection). MatchOption o ⊥ (λ c. me.client ≡ c.client)) (sym here) refl }
+
   rising : IsRising (settled_on state.inputs made.sink.index ++ x ∷ [])
   rising = rising_push (settled_on state.inputs made.sink.index) x (rising_filter (is_settled made.sink.index) state.inputs h.steady.rising) (all_filter (λ y. (Input.index y).0 < state.inputs_made) (is_settled made.sink.index) state.inputs
       (all_weaken (IsInput state.sinks state.inputs_made) (λ y. (Input.index y).0 < state.inputs_made) (λ y i. i.given) state.inputs h.steady.inputs))
@@ -264,12 +268,12 @@ module _ {P : Type 0} (spec_of : P → SampleSpec) (state : State P) (h : IsCons
   created_lawful : IsLawful state outcome
   created_lawful =
       subst (IsLawful state) (sym made.handled)
-      ((new, refl), (regroups (changed state (Made x (new_of a after made.feed x) (me.streams + 1) (state.inputs_made + 1))) made.sink.index after there follows (settled_on state.inputs made.sink.index ++ x ∷ []) rising, (tt, is_paid made.sink.index)))
+      ((new, refl, next), (regroups (changed state (Made x (new_of a after made.feed x) (me.streams + 1) (state.inputs_made + 1))) made.sink.index after there follows (settled_on state.inputs made.sink.index ++ x ∷ []) rising, (tt, is_paid made.sink.index)))
 
-pub create_lawful : {P : Type 0} (spec_of : P → SampleSpec) (state : State P) → IsConsistent spec_of state → (me : Connection) (tag : ℕ) (named : Named) (a : CreateFields) → ((target : Target) → target_in named ≡ Some target → IsThere state.sinks target)
+pub create_lawful : {P : Type 0} (spec_of : P → SampleSpec) (state : State P) → IsConsistent spec_of state → (me : Connection) → connection_of state.connections me.conn ≡ Some me → (tag : ℕ) (named : Named) (a : CreateFields) → ((target : Target) → target_in named ≡ Some target → IsThere state.sinks target)
     → Each (IsLawful state) (create_named state me tag a named)
-create_lawful {P} spec_of state h me tag named a there =
+create_lawful {P} spec_of state h me here tag named a there =
     each_by (IsLawful state) (create_named state me tag a named)
     (λ outcome e.
     let made = create_passed state.inputs state.inputs_made me tag named (group_named state.groups named) a outcome e in
-    created_lawful spec_of state h me tag named a outcome made (there made.sink made.there))
+    created_lawful spec_of state h me here tag named a outcome made (there made.sink made.there))

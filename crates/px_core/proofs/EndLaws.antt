@@ -35,7 +35,7 @@ use Rattle.px_state.specs.Outcome.{CoreOutcome, reply_to_asker, sent_all, closed
 use Rattle.px_core.specs.Command.{head_answer}
 use Rattle.px_core.specs.Connecting.{is_full, joined, new_connection, connected, connect_effects, unmarked, going_on}
 use Rattle.px_state.specs.Out.{next_for, past}
-use Rattle.px_core.specs.Parcels.{given_in}
+use Rattle.px_core.specs.Parcels.{Brought, given_in}
 use Rattle.px_core.specs.Consistency.{AreDistinct, IsSteady, IsConsistent, IsStep}
 use Rattle.px_core.specs.Lawful.{Lawful, AreLawfulOwing, owed_after}
 use Rattle.px_core.specs.Ending.{is_end_of, ends_of, goes_on, begins_with, begins_of, begins_by}
@@ -281,7 +281,7 @@ lawful_once : {P : Type 0} (spec_of : P → SampleSpec) (conn : ConnId) (asker :
 lawful_once spec_of conn asker state outcome h lawful = omega (arith, outcome_ends conn asker outcome, changes_once spec_of conn [] state outcome.changes h.steady lawful)
 
 -- nor does an arrival end one
-arrival_once : {P : Type 0} (spec_of : P → SampleSpec) (conn : ConnId) (asker : Option ConnId) (state : State P) (outcome : CoreOutcome P) (given : List P) → IsArrival spec_of state outcome given → Once conn asker state outcome
+arrival_once : {P : Type 0} (spec_of : P → SampleSpec) (conn : ConnId) (asker : Option ConnId) (state : State P) (outcome : CoreOutcome P) (given : List (Brought P)) → IsArrival spec_of state outcome given → Once conn asker state outcome
 arrival_once {P} spec_of conn asker state outcome given a =
     let closed : closed_all outcome.changes ≡ closed_all a.behind = ap (λ (changes : List (Change P)). closed_all changes) a.changes in
     let later = changes_once spec_of conn a.owed a.after a.behind a.follows.keeps a.lawful in

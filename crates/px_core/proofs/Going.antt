@@ -20,5 +20,17 @@ found_number cs n c e = inner (connection_of cs n) refl e
     inner None found f = absurd (none-some c f)
     inner (Some x) found f = this x found x.marked f
 
+-- it exists
+pub going_there : (cs : List Connection) (c : Connection) → going_on cs c.conn ≡ Some c → connection_of cs c.conn ≡ Some c
+going_there cs c e = inner (connection_of cs c.conn) e
+  where
+    this : (x : Connection) (m : Bool) → cond m None (Some x) ≡ Some c → Some x ≡ Some c
+    this x true f = absurd (none-some c f)
+    this x false f = f
+
+    inner : (o : Option Connection) → unmarked o ≡ Some c → o ≡ Some c
+    inner None f = absurd (none-some c f)
+    inner (Some x) f = this x x.marked f
+
 pub going_by_own : (cs : List Connection) (n : ConnId) (c : Connection) → going_on cs n ≡ Some c → going_on cs c.conn ≡ Some c
 going_by_own cs n c e = ap (λ k. going_on cs (record { 0 = k })) (found_number cs n c e) ∙ e

@@ -26,6 +26,10 @@ pub mod JoinLaws
 pub mod StreamLaws
 pub mod StepLaws
 pub mod ParcelLaws
+pub mod GivenLaws
+pub mod IndexLaws
+pub mod AgainLaws
+pub mod OwnLaws
 pub mod CoreLaws
 pub mod BackLaws
 pub mod EndLaws

@@ -3,7 +3,7 @@ use Rattle.std.proofs.Common.{◌≡◌, ℕ, zero, suc, List, [], ◌∷◌, �
 use Rattle.std.specs.Prelude.{nat_eq, nat_le, ◌+◌, replicate, get_or, not, is_some, IsSome, Result, Ok, Err}
 use Rattle.std.specs.List.{AllByRecursion}
 use Rattle.std.specs.FinMap as finite
-use Rattle.std.proofs.lemmas.Bool.{cond_both, eqb-false, cases_lt, and_parts}
+use Rattle.std.proofs.lemmas.Bool.{cond_both, eqb-true, eqb-false, cases_lt, and_parts}
 use Rattle.std.proofs.lemmas.List.{length-replicate, get_or-replicate, get_or_past}
 use Rattle.std.proofs.lemmas.Option.{none-some}
 use Rattle.px_types.specs.declared.ids.ConnId.{ConnId}
@@ -54,20 +54,20 @@ use Rattle.px_state.specs.State.{State, new_state, goes_on, connection_of, input
 use Rattle.px_core.specs.Command.{default_sink, handle, read_answer, is_barred, command_answer, head_answer}
 use Rattle.px_core.specs.Connecting.{is_full, new_connection, joined, connected, ended, going_on}
 use Rattle.px_core.specs.Notice.{is_on, input_on, owner_of, notified_of, left_of, arrival_at, arrived_with, given_up_by, given_up, notice_answer}
-use Rattle.px_core.specs.Parcels.{given_by, given_in}
+use Rattle.px_core.specs.Parcels.{Brought, moved_stream, given_by, given_in}
 use Rattle.px_core.specs.Orderly.{inputs_there}
 use Rattle.px_core.specs.Consistency.{AreDistinct, AreInStep, IsConsistent, IsStep, Spares, handed_out_by}
 use Rattle.px_state.specs.Out.{next_for, handed_out}
 use Rattle.px_state.specs.Outcome.{CoreOutcome, refused, reply_fits, requested, broken_off}
 use Rattle.px_sinks.specs.Sinks.{rate_of, rate_on, depth_of, sink_of, named_by}
 use Rattle.px_core.specs.Step.{Step, connect, frame, broken, close, cut, sweep, notice, out, body_answer, frame_of, answered, answer_of, stepped, stepped_by}
-use Rattle.px_core.proofs.ListLaws.{all_push}
+use Rattle.px_core.proofs.ListLaws.{all_push, found_test}
 use Rattle.px_core.proofs.ChangeLaws.{sink_at, held_on}
 use Rattle.px_core.proofs.HandingLaws.{out_keeps, out_spares}
 use Rattle.px_core.proofs.GroupLaws.{changes_grouped, past_grouped, new_grouped}
 use Rattle.px_core.proofs.VerbLaws.{others_keep, changes_follow}
 use Rattle.px_core.proofs.HandledLaws.{Each, each_check, each_then}
-use Rattle.px_core.proofs.Going.{going_by_own}
+use Rattle.px_core.proofs.Going.{going_there, going_by_own}
 use Rattle.px_sinks.proofs.Sinks.{named_there}
 use Rattle.px_core.proofs.EntryLaws.{found_by_index}
 use Rattle.px_core.proofs.AnswerLaws.{IsLawful, data_lawful, away, left_lawful}
@@ -109,57 +109,57 @@ auth_lawful {P} state names me tag version cookie =
     (each_check (IsLawful state) (nat_le SERVER_VERSION (version_in version)) Version _
     (each_check (IsLawful state) (same_text cookie names.cookie) Access _ (tt, tt)))
 
-handle_lawful : {P : Type 0} (spec_of : P → SampleSpec) (state : State P) → IsConsistent spec_of state → (me : Connection) (tag : ℕ) (command : Command) → Each (IsLawful state) (handle state me tag command)
-handle_lawful spec_of state h me tag (commands.Auth version cookie) = auth_lawful state state.names me tag version cookie
-handle_lawful spec_of state h me tag (commands.SetClientName list) = (tt, tt)
-handle_lawful spec_of state h me tag (commands.Create fields) =
-    create_lawful spec_of state h me tag (named_by state.names state.sinks fields.sink true) fields
+handle_lawful : {P : Type 0} (spec_of : P → SampleSpec) (state : State P) → IsConsistent spec_of state → (me : Connection) → going_on state.connections me.conn ≡ Some me → (tag : ℕ) (command : Command) → Each (IsLawful state) (handle state me tag command)
+handle_lawful spec_of state h me here tag (commands.Auth version cookie) = auth_lawful state state.names me tag version cookie
+handle_lawful spec_of state h me here tag (commands.SetClientName list) = (tt, tt)
+handle_lawful spec_of state h me here tag (commands.Create fields) =
+    create_lawful spec_of state h me (going_there state.connections me here) tag (named_by state.names state.sinks fields.sink true) fields
     (named_there state.sinks (sink_named state.names fields.sink.index fields.sink.name true))
-handle_lawful spec_of state h me tag (commands.Delete stream) = delete_lawful state (stream_of state.inputs me.conn stream) state.waiting tag
-handle_lawful spec_of state h me tag (commands.Drain stream) = drain_lawful state h.steady.rising me.conn stream tag (stream_of state.inputs me.conn stream) refl
-handle_lawful spec_of state h me tag (commands.Latency stream time) = latency_lawful state h.steady.rising me.conn stream time tag (stream_of state.inputs me.conn stream) refl
-handle_lawful spec_of state h me tag (commands.Cork stream on) = cork_lawful state h.steady.rising me.conn stream on tag (stream_of state.inputs me.conn stream) refl
-handle_lawful spec_of state h me tag (commands.Flush stream) = flush_lawful state h.steady.rising me.conn stream tag (stream_of state.inputs me.conn stream) refl
-handle_lawful spec_of state h me tag (commands.Trigger stream) = trigger_lawful state h.steady.rising me.conn stream tag (stream_of state.inputs me.conn stream) refl
-handle_lawful spec_of state h me tag (commands.Prebuf stream) = prebuf_lawful state h.steady.rising me.conn stream tag (stream_of state.inputs me.conn stream) refl
-handle_lawful spec_of state h me tag (commands.Attributes stream asked adjust_latency early_requests) =
+handle_lawful spec_of state h me here tag (commands.Delete stream) = delete_lawful state (stream_of state.inputs me.conn stream) state.waiting tag
+handle_lawful spec_of state h me here tag (commands.Drain stream) = drain_lawful state h.steady.rising me.conn stream tag (stream_of state.inputs me.conn stream) refl
+handle_lawful spec_of state h me here tag (commands.Latency stream time) = latency_lawful state h.steady.rising me.conn stream time tag (stream_of state.inputs me.conn stream) refl
+handle_lawful spec_of state h me here tag (commands.Cork stream on) = cork_lawful state h.steady.rising me.conn stream on tag (stream_of state.inputs me.conn stream) refl
+handle_lawful spec_of state h me here tag (commands.Flush stream) = flush_lawful state h.steady.rising me.conn stream tag (stream_of state.inputs me.conn stream) refl
+handle_lawful spec_of state h me here tag (commands.Trigger stream) = trigger_lawful state h.steady.rising me.conn stream tag (stream_of state.inputs me.conn stream) refl
+handle_lawful spec_of state h me here tag (commands.Prebuf stream) = prebuf_lawful state h.steady.rising me.conn stream tag (stream_of state.inputs me.conn stream) refl
+handle_lawful spec_of state h me here tag (commands.Attributes stream asked adjust_latency early_requests) =
     attributes_lawful state h.steady.rising me.conn stream (depth_of (sink_of state.sinks (stream_of state.inputs me.conn stream))) (rate_of (sink_of state.sinks (stream_of state.inputs me.conn stream))) asked tag (stream_of state.inputs me.conn stream) refl
-handle_lawful spec_of state h me tag (commands.EmptyList number) = tt
-handle_lawful spec_of state h me tag (commands.LookupSink name) = each_then (IsLawful state) (sink_called state.names name) _ (λ sink. tt)
-handle_lawful spec_of state h me tag (commands.DefaultSink name) = each_then (IsLawful state) (sink_called state.names name) _ (λ sink. (tt, tt))
-handle_lawful spec_of state h me tag commands.ServerInfo = each_then (IsLawful state) (present (target_of (default_sink state)) NoEntity) _ (λ sink. tt)
-handle_lawful spec_of state h me tag (commands.ClientInfo client) = each_then (IsLawful state) (present (client_numbered state.names.clients client) NoEntity) _ (λ found. tt)
-handle_lawful spec_of state h me tag commands.ClientInfoList = tt
-handle_lawful spec_of state h me tag (commands.UpdateClient mode list) = each_then (IsLawful state) (present (mode_of mode) Invalid) _ (λ known. (tt, tt))
-handle_lawful spec_of state h me tag (commands.RemoveClient keys) =
+handle_lawful spec_of state h me here tag (commands.EmptyList number) = tt
+handle_lawful spec_of state h me here tag (commands.LookupSink name) = each_then (IsLawful state) (sink_called state.names name) _ (λ sink. tt)
+handle_lawful spec_of state h me here tag (commands.DefaultSink name) = each_then (IsLawful state) (sink_called state.names name) _ (λ sink. (tt, tt))
+handle_lawful spec_of state h me here tag commands.ServerInfo = each_then (IsLawful state) (present (target_of (default_sink state)) NoEntity) _ (λ sink. tt)
+handle_lawful spec_of state h me here tag (commands.ClientInfo client) = each_then (IsLawful state) (present (client_numbered state.names.clients client) NoEntity) _ (λ found. tt)
+handle_lawful spec_of state h me here tag commands.ClientInfoList = tt
+handle_lawful spec_of state h me here tag (commands.UpdateClient mode list) = each_then (IsLawful state) (present (mode_of mode) Invalid) _ (λ known. (tt, tt))
+handle_lawful spec_of state h me here tag (commands.RemoveClient keys) =
     each_then (IsLawful state) (check (has_keys (list_of (client_on state.names.clients me.conn)) keys) NoEntity) _ (λ there. (tt, tt))
-handle_lawful spec_of state h me tag (commands.SinkInfo sink) =
+handle_lawful spec_of state h me here tag (commands.SinkInfo sink) =
     each_check (IsLawful state) (is_clear (named_by state.names state.sinks sink false)) Invalid _
     (each_then (IsLawful state) (present (target_of (named_by state.names state.sinks sink false)) NoEntity) _
     (λ found. each_then (IsLawful state) (present (group_on state.groups found) NoEntity) _ (λ group. tt)))
-handle_lawful spec_of state h me tag commands.SinkInfoList = tt
-handle_lawful spec_of state h me tag (commands.InputInfo input) =
+handle_lawful spec_of state h me here tag commands.SinkInfoList = tt
+handle_lawful spec_of state h me here tag (commands.InputInfo input) =
     each_then (IsLawful state) (present (input_named state.inputs input) NoEntity) _ (λ x. each_then (IsLawful state) (present (member_on state.groups x) NoEntity) _ (λ m. tt))
-handle_lawful spec_of state h me tag commands.InputInfoList = tt
-handle_lawful spec_of state h me tag (commands.Subscribe mask) = each_check (IsLawful state) (is_mask mask) Invalid _ (tt, tt)
-handle_lawful spec_of state h me tag (commands.StreamName stream name) =
+handle_lawful spec_of state h me here tag commands.InputInfoList = tt
+handle_lawful spec_of state h me here tag (commands.Subscribe mask) = each_check (IsLawful state) (is_mask mask) Invalid _ (tt, tt)
+handle_lawful spec_of state h me here tag (commands.StreamName stream name) =
     each_then (IsLawful state) (present (stream_of state.inputs me.conn stream) NoEntity) _ (λ x. each_then (IsLawful state) (present (name_in name) Invalid) _ (λ text. (tt, tt)))
-handle_lawful spec_of state h me tag (commands.UpdateStream stream mode list) =
+handle_lawful spec_of state h me here tag (commands.UpdateStream stream mode list) =
     each_then (IsLawful state) (present (stream_of state.inputs me.conn stream) NoEntity) _ (λ x. each_then (IsLawful state) (present (mode_of mode) Invalid) _ (λ known. (tt, tt)))
-handle_lawful spec_of state h me tag (commands.RemoveStream stream keys) =
+handle_lawful spec_of state h me here tag (commands.RemoveStream stream keys) =
     each_then (IsLawful state) (present (stream_of state.inputs me.conn stream) NoEntity) _
     (λ x. each_then (IsLawful state) (check (has_keys (list_of_input state.lists (Input.index x)) keys) NoEntity) _ (λ there. (tt, tt)))
-handle_lawful spec_of state h me tag (commands.KillClient client) = kill_client_lawful state h.steady.distinct client tag (connection_with state.connections client) refl
-handle_lawful spec_of state h me tag (commands.Move input sink) =
+handle_lawful spec_of state h me here tag (commands.KillClient client) = kill_client_lawful state h.steady.distinct client tag (connection_with state.connections client) refl
+handle_lawful spec_of state h me here tag (commands.Move input sink) =
     move_lawful state input tag (named_by state.names state.sinks sink false) (named_there state.sinks (sink_named state.names sink.index sink.name false))
-handle_lawful spec_of state h me tag (commands.KillInput input) =
+handle_lawful spec_of state h me here tag (commands.KillInput input) =
     kill_input_lawful state (input_named state.inputs input) (owner_of state.connections (input_named state.inputs input)) state.waiting tag
-handle_lawful spec_of state h me tag (commands.SinkVolume sink volume) =
+handle_lawful spec_of state h me here tag (commands.SinkVolume sink volume) =
     sink_volume_lawful spec_of state h (named_by state.names state.sinks sink false) (named_there state.sinks (sink_named state.names sink.index sink.name false)) tag volume
-handle_lawful spec_of state h me tag (commands.SinkMute sink on) =
+handle_lawful spec_of state h me here tag (commands.SinkMute sink on) =
     sink_mute_lawful spec_of state h (named_by state.names state.sinks sink false) (named_there state.sinks (sink_named state.names sink.index sink.name false)) tag on
-handle_lawful spec_of state h me tag (commands.InputVolume input volume) = input_volume_lawful spec_of state h input tag volume
-handle_lawful spec_of state h me tag (commands.InputMute input on) = input_mute_lawful spec_of state h input tag on
+handle_lawful spec_of state h me here tag (commands.InputVolume input volume) = input_volume_lawful spec_of state h input tag volume
+handle_lawful spec_of state h me here tag (commands.InputMute input on) = input_mute_lawful spec_of state h input tag on
 
 requested_lawful : {P : Type 0} (state : State P) (tag : ℕ) (given : Handled (CoreOutcome P)) → Each (IsLawful state) given → IsLawful state (requested tag given)
 requested_lawful state tag (Ok outcome) h = cond_both (reply_fits outcome.reply) outcome (refused tag TooLarge) (IsLawful state) (λ e. h) (λ e. tt)
@@ -174,7 +174,7 @@ broken_off_lawful : {P : Type 0} (state : State P) (c : Connection) → going_on
 broken_off_lawful state c e at fault = (subst IsSome (sym e) refl, tt)
 
 read_lawful : {P : Type 0} (spec_of : P → SampleSpec) (state : State P) → IsConsistent spec_of state → (c : Connection) → going_on state.connections c.conn ≡ Some c → (at tag : ℕ) (r : Result Command CmdFault) → IsLawful state (read_answer state c at tag r)
-read_lawful spec_of state h c e at tag (Ok command) = requested_lawful state tag (handle state c tag command) (handle_lawful spec_of state h c tag command)
+read_lawful spec_of state h c e at tag (Ok command) = requested_lawful state tag (handle state c tag command) (handle_lawful spec_of state h c e tag command)
 read_lawful spec_of state h c e at tag (Err (Protocol fault)) = broken_off_lawful state c e at fault
 read_lawful spec_of state h c e at tag (Err (Unknown command)) = tt
 read_lawful spec_of state h c e at tag (Err (Unsupported command)) = tt
@@ -234,17 +234,22 @@ notified_of_lawful state input about = notified_lawful state input (owner_of sta
 
 -- a sink has given up a stream
 given_up_sound : {P : Type 0} (spec_of : P → SampleSpec) (state : State P) → IsConsistent spec_of state → (sink : SinkId) (input : InputId) (parcel : P) (o : Option Input) → input_on state.inputs sink input ≡ o
-    → IsSound spec_of state (given_up spec_of state sink o parcel) (parcel ∷ [])
+    → IsSound spec_of state (given_up spec_of state sink o parcel) (moved_stream input.0 parcel ∷ [])
 given_up_sound spec_of state h sink input parcel None e = inl tt
-given_up_sound {P} spec_of state h sink input parcel (Some x) e = by x.standing refl
+given_up_sound {P} spec_of state h sink input parcel (Some x) e =
+    subst (λ index. IsSound spec_of state (given_up spec_of state sink (Some x) parcel) (moved_stream index parcel ∷ [])) own (by x.standing refl)
   where
+    -- it is of the input that is found
+    own : x.index.0 ≡ input.0
+    own = eqb-true x.index.0 input.0 (and_parts (nat_eq x.index.0 input.0) (nat_eq x.sink.0 sink.0) (found_test (is_on sink input) state.inputs x e)).0
+
     lawful : IsLawful state (left_of spec_of state sink (Some x) parcel)
     lawful = left_lawful spec_of state h sink input (spec_of parcel) (Some x) e
 
-    by : (standing : Standing) → x.standing ≡ standing → IsSound spec_of state (given_up_by spec_of state sink x parcel standing) (parcel ∷ [])
+    by : (standing : Standing) → x.standing ≡ standing → IsSound spec_of state (given_up_by spec_of state sink x parcel standing) (moved_stream x.index.0 parcel ∷ [])
     by Settled is = inl lawful
     by (Moving to) is =
-        cond_both (hands_over (spec_of parcel) x) (arrived_with x.index parcel (arrival_at state to x)) (left_of spec_of state sink (Some x) parcel) (λ outcome. IsSound spec_of state outcome (parcel ∷ []))
+        cond_both (hands_over (spec_of parcel) x) (arrived_with x.index parcel (arrival_at state to x)) (left_of spec_of state sink (Some x) parcel) (λ outcome. IsSound spec_of state outcome (moved_stream x.index.0 parcel ∷ []))
         (λ t.
         let parts = and_parts (has_left x.way) (same_spec (spec_of parcel) (sample_spec x.spec)) t in
         arrival_sound spec_of state h x to parcel (found_by_index (is_on sink input) state.inputs h.steady.rising x e) is (away x.way parts.0) (spec_is (spec_of parcel) (sample_spec x.spec) parts.1))
@@ -274,7 +279,7 @@ answer_sound spec_of state (frame conn f) is h = inl (frame_lawful spec_of state
 answer_sound spec_of state (broken conn fault at) is h = inl (ended_lawful state conn (going_on state.connections conn) refl (Some Breach) (rule_of fault) at)
 answer_sound spec_of state (close conn) is h = inl (ended_lawful state conn (going_on state.connections conn) refl None 0 0)
 answer_sound spec_of state (cut conn) is h = inl (ended_lawful state conn (going_on state.connections conn) refl (Some ForMemory) 0 0)
-answer_sound spec_of state sweep is h = inl (sweep_lawful state)
+answer_sound spec_of state sweep is h = inl (sweep_lawful state h.steady.rising)
 answer_sound spec_of state (notice sink n) is h = notice_sound spec_of state h sink n
 answer_sound spec_of state (out sink) is h = inl tt
 
@@ -283,7 +288,7 @@ pub record Preserves {P : Type 0} (spec_of : P → SampleSpec) (before after : S
   pub consistent : IsConsistent spec_of after
   pub held : (k : ℕ) → held_on k after.inputs ≡ held_on k before.inputs
 
-sound_keeps : {P : Type 0} (spec_of : P → SampleSpec) (state : State P) (outcome : CoreOutcome P) (given : List P) → IsConsistent spec_of state → IsSound spec_of state outcome given → Preserves spec_of state (answered state outcome)
+sound_keeps : {P : Type 0} (spec_of : P → SampleSpec) (state : State P) (outcome : CoreOutcome P) (given : List (Brought P)) → IsConsistent spec_of state → IsSound spec_of state outcome given → Preserves spec_of state (answered state outcome)
 sound_keeps spec_of state outcome given h (inl lawful) =
     let after = changes_follow spec_of [] state outcome.changes h.steady lawful in
     record {

@@ -1,14 +1,19 @@
 -- The changes of all infos over a step, and which connections are sent which of these events.
-use Rattle.std.specs.Prelude.{ℕ, Bool, false, nat_eq, List, [], map, filter, Option, None, Some}
+use Rattle.std.specs.Prelude.{◌≡◌, ℕ, ◌<◌, Bool, false, nat_eq, List, [], map, filter, Option, None, Some, option_map, option_to_list}
+use Rattle.std.specs.List.{AllByRecursion}
 use Rattle.px_types.specs.declared.ids.ConnId.{ConnId}
 use Rattle.px_model.specs.Frame.{SampleSpec}
 use Rattle.px_names.specs.declared.client.Client.{Client}
-use Rattle.px_names.specs.Clients.{client_on, mask_of}
+use Rattle.px_names.specs.Clients.{client_on, client_numbered, mask_of}
+use Rattle.px_reply.specs.Front.{reply_to}
+use Rattle.px_reply.specs.Info.{with_client}
+use Rattle.px_ctl_info.specs.Clients.{info_of}
 use Rattle.px_outcome.specs.declared.input.Connection.{Connection}
 use Rattle.px_subscribe.specs.declared.event.Event.{Event}
 use Rattle.px_subscribe.specs.Event.{message_of, hears}
 use Rattle.px_subscribe.specs.Infos.{Infos, Given}
-use Rattle.px_subscribe.specs.Became.{events_between}
+use Rattle.px_subscribe.specs.declared.event.Facility.TheVariants as facility
+use Rattle.px_subscribe.specs.Became.{became, event, about, events_between}
 use Rattle.px_subscribe.specs.InfoBytes.{infos_in}
 use Rattle.px_subscribe.specs.Moments.{info_lists_of, given_in}
 use Rattle.px_state.specs.declared.effect.Effect.{Effect}
@@ -32,6 +37,21 @@ given_by state = given_in state.sinks state.clients_made (scene_of state)
 
 abbrev pub events_of : {P : Type 0} → State P → State P → List Event
 events_of before after = events_between (given_by after) (infos_of before) (infos_of after)
+
+-- a client is the one with its index, and events about it follow its own info
+pub record IsOwn {P : Type 0} (state : State P) (client : Client) : Type 0 where
+  pub given : client.index < (given_by state).clients
+  pub found : client_numbered state.names.clients client.index ≡ Some client
+  pub info : (infos_of state).clients client.index ≡ Some (info_of client)
+
+-- the event about a client with an index, by what it was before and what it is after
+abbrev pub client_events : ℕ → Option Client → Option Client → List Event
+client_events index before after = option_to_list (option_map (event facility.Client index) (became (with_client (reply_to 0)) (option_map info_of before) (option_map info_of after)))
+
+-- the event about each client that is there after a step, and each that was there before it, is by its own info
+pub record SayOfClients {P : Type 0} (before after : State P) : Type 0 where
+  pub here : AllByRecursion (λ c. about facility.Client (Client.index c) (events_of before after) ≡ client_events c.index (client_numbered before.names.clients c.index) (Some c)) after.names.clients
+  pub gone : AllByRecursion (λ c. about facility.Client (Client.index c) (events_of before after) ≡ client_events c.index (Some c) (client_numbered after.names.clients c.index)) before.names.clients
 
 -- ---- who is notified
 

@@ -23,6 +23,7 @@ use Rattle.px_core.specs.Connecting.{going_on}
 use Rattle.px_ctl_play.specs.Asked.{MOST_ON_SINK}
 use Rattle.px_core.specs.Grouped.{IsGroupOf, paid}
 use Rattle.px_core.specs.Consistency.{IsInput, IsFedAt, GoesTo, IsIncreasing, IsAwaiting}
+use Rattle.px_core.specs.Indexed.{inputs_from, IsNextStream}
 
 -- a message brings a new input's stream to its sink, and fits it
 abbrev pub Brings : {P : Type 0} → Input → SinkSpec → Msg P → Type 0
@@ -93,7 +94,7 @@ Lawful state (Authed conn version) = ⊤
 Lawful state (Named conn list) = ⊤
 Lawful state (Masked conn mask) = ⊤
 Lawful state (Defaulted sink) = ⊤
-Lawful state (Made x m streams inputs) = IsNew state x m × (inputs ≡ state.inputs_made + 1)
+Lawful state (Made x m streams inputs) = IsNew state x m × (inputs ≡ state.inputs_made + 1) × IsNextStream state.connections x streams
 Lawful state (Described index list) = ⊤
 Lawful state (Leaves index) = ⊤
 Lawful state (Moves index to) = MayMove state index to
@@ -105,7 +106,7 @@ Lawful state (Asked w) = IsAwaiting state.inputs w
 Lawful state (Answered w) = ⊤
 Lawful state (Gone index) = IfSome (input_of state.inputs index) HasLeft
 Lawful state (Ended conn reason fault at) = IsSome (going_on state.connections conn)
-Lawful state (Forgotten conn) = ⊤
+Lawful state (Forgotten conn) = inputs_from state.inputs conn ≡ []
 
 -- ---- the sinks whose groups don't match their inputs, after a change
 

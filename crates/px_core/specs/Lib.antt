@@ -9,6 +9,7 @@ pub mod Consistency
 pub mod HandedOver
 pub mod Missing
 pub mod Places
+pub mod Indexed
 pub mod Parcels
 pub mod Lawful
 pub mod Ending

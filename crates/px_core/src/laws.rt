@@ -36,11 +36,12 @@ ghost use Rattle.px_state.specs.Out.{Roomy, waiting_for, next_for, handed_out, p
 ghost use Rattle.px_core.specs.Step.{Step, connect, notice, out, sender_of, stepped, effects_of, stepped_by, effects_by};
 ghost use Rattle.px_core.specs.Orderly.{specs_of, inputs_there, IsOrderlyState};
 ghost use Rattle.px_core.specs.Consistency.{IsConsistent, IsPosted, IsStep, Spares, handed_out_by, messages_out};
-ghost use Rattle.px_core.specs.Parcels.{given_in, Carries, AllCarry, IsAmong};
+ghost use Rattle.px_core.specs.Indexed.{IsIndexed, GivesNoneAgain};
+ghost use Rattle.px_core.specs.Parcels.{given_in, Carries, AllCarry, IsNewOrAmong};
 ghost use Rattle.px_core.specs.Hearing.{posted_by_steps};
 ghost use Rattle.px_subscribe.specs.Became.{SayWhatBecame};
 ghost use Rattle.px_state.specs.Events.{step_events};
-ghost use Rattle.px_core.specs.Heard.{infos_of, given_by, events_of, mask_on, heard, sent_events, sent_to, own_effects};
+ghost use Rattle.px_core.specs.Heard.{IsOwn, SayOfClients, infos_of, given_by, events_of, mask_on, heard, sent_events, sent_to, own_effects};
 ghost use Rattle.px_core.specs.Ending.{ends_of, goes_on, begins_of, begins_by};
 
 /// A new state has the core's invariants, and every step preserves them; `spec_of` reads a parcel's sample spec. So the
@@ -101,15 +102,31 @@ pub fn sinks_hear_what_is_orderly<P>()
         → (stepped_by spec_of state steps).sinks ≡ state.sinks }
 {}
 
-/// No parcel is queued for a sink, and none is handed to it, but those that came with notices. It does nothing: its contract
-/// is the law. Source: own.
+/// Each stream that a message brings to a sink, queued or handed to it, is a new one, or one that a notice among the steps
+/// gave up: of that very input, in that very parcel. It does nothing: its contract is the law. Source: own.
 pub fn parcels_are_those_given_up<P>()
     ensures waiting { (spec_of : P → SampleSpec) (header : Header) (steps : List (Step P)) → IsHeader header
         → AllByRecursion IsStep steps
-        → AllCarry (IsAmong (flat_map given_in steps)) (stepped_by spec_of (new_state header) steps) }
+        → AllCarry (IsNewOrAmong (flat_map given_in steps)) (stepped_by spec_of (new_state header) steps) }
     ensures posted { (spec_of : P → SampleSpec) (header : Header) (steps : List (Step P)) (sink : SinkId) → IsHeader header
         → AllByRecursion IsStep steps
-        → AllByRecursion (Carries (IsAmong (flat_map given_in steps))) (posted_by_steps spec_of sink (new_state header) steps) }
+        → AllByRecursion (Carries (IsNewOrAmong (flat_map given_in steps))) (posted_by_steps spec_of sink (new_state header) steps) }
+{}
+
+/// The indices of clients rise in the order of connecting; each connection has its client, and each client its connection;
+/// the indices of a connection's live streams rise, and the inputs that they are of name its client. So each client is the
+/// one with its index, below the number given, and its info is the one found there. No index is given again: a client or an
+/// input with one that was given before was there before, and is of the same connection. It does nothing: its contract is
+/// the law. Source: own.
+pub fn indices_are_given_once<P>()
+    ensures new { (header : Header) → IsIndexed {P = P} (new_state header) }
+    ensures step { (spec_of : P → SampleSpec) (state : State P) (s : Step P) → IsStep s → IsConsistent spec_of state → IsIndexed state
+        → IsIndexed (stepped spec_of state s) }
+    ensures steps { (spec_of : P → SampleSpec) (state : State P) (steps : List (Step P)) → AllByRecursion IsStep steps
+        → IsConsistent spec_of state → IsIndexed state → IsIndexed (stepped_by spec_of state steps) }
+    ensures own { (state : State P) → IsIndexed state → AllByRecursion (IsOwn state) state.names.clients }
+    ensures again { (spec_of : P → SampleSpec) (state : State P) (steps : List (Step P)) → AllByRecursion IsStep steps
+        → IsConsistent spec_of state → GivesNoneAgain state (stepped_by spec_of state steps) }
 {}
 
 /// The messages that a sink is handed by some steps followed by others; by steps that hand it nothing; and by those that do
@@ -204,7 +221,8 @@ pub fn what_is_there_is_found<P>()
 /// After the other effects of a step, each live connection is sent, in order, the subscription events of its mask, as it is
 /// after the step, and no other connection is sent any: those between the infos before the step and the infos after it.
 /// About a sink, an input or a client that has come, has gone, or whose info differs there is the one event that says so,
-/// and about others none. It does nothing: its contract is the law. Source: own.
+/// and about others none; about each client that is there before or after, it is the one by its own info. It does nothing:
+/// its contract is the law. Source: own.
 pub fn subscribers_hear_what_became<P>()
     ensures effects { (spec_of : P → SampleSpec) (state : State P) (s : Step P)
         → effects_of spec_of state s ≡ own_effects spec_of state s ++ step_events state (stepped spec_of state s) }
@@ -212,4 +230,6 @@ pub fn subscribers_hear_what_became<P>()
         → sent_to conn (step_events state (stepped spec_of state s))
         ≡ sent_events conn (heard (mask_on (stepped spec_of state s) conn) (events_of state (stepped spec_of state s))) }
     ensures each { (before after : State P) → SayWhatBecame (given_by after) (infos_of before) (infos_of after) }
+    ensures clients { (spec_of : P → SampleSpec) (state : State P) (s : Step P) → IsStep s → IsConsistent spec_of state
+        → IsIndexed state → SayOfClients state (stepped spec_of state s) }
 {}

@@ -18,10 +18,10 @@ mod sink_handlers;
 mod volumes;
 
 pub use laws::{
-    connections_end_once, misfits_change_nothing, parcels_are_those_given_up,
-    refusals_change_nothing, sinks_have_what_was_posted, sinks_hear_step_by_step,
-    sinks_hear_what_is_orderly, states_are_consistent, subscribers_hear_what_became,
-    what_fits_acts, what_is_there_is_found,
+    connections_end_once, indices_are_given_once, misfits_change_nothing,
+    parcels_are_those_given_up, refusals_change_nothing, sinks_have_what_was_posted,
+    sinks_hear_step_by_step, sinks_hear_what_is_orderly, states_are_consistent,
+    subscribers_hear_what_became, what_fits_acts, what_is_there_is_found,
 };
 pub use machine::Core;
 pub use px_outcome::Reason;

@@ -9,7 +9,7 @@ use Rattle.px_header.specs.declared.header.Header.{Header}
 use Rattle.px_header.specs.declared.header.SinkSpec.{SinkSpec}
 use Rattle.px_header.specs.HeaderRules.{IsHeader, IsSink, AreSinks}
 use Rattle.px_msg.specs.View.{sample_spec}
-use Rattle.px_model.specs.Stream.{Stream, IsStream}
+use Rattle.px_model.specs.Stream.{Stream}
 use Rattle.px_model.proofs.Rounds.{empty_keeps}
 use Rattle.px_state.specs.State.{State, new_state}
 use Rattle.px_core.proofs.ParcelLaws.{new_carry}
@@ -22,7 +22,7 @@ use Rattle.px_world.specs.declared.playing.Playing.{Playing}
 use Rattle.px_world.specs.World.{Mixer, new_mixer, new_world}
 use Rattle.px_world.specs.Playing.{mixer_of}
 use Rattle.px_world.specs.Running.{StandsFor}
-use Rattle.px_world.specs.Consistency.{GivesStream, IsMixerOf, AreConsistent}
+use Rattle.px_world.specs.Consistency.{HasStream, GivesStream, IsMixerOf, AreConsistent}
 use Rattle.px_world.specs.Doing.{Unless, loses, running_of, set_to_fail}
 use Rattle.px_world.proofs.Consistent.{consistent-notices}
 use Rattle.px_world.proofs.Sounding.{seen-at}
@@ -36,7 +36,7 @@ new-mixer-is header index s m there mixer =
 pub consistent-first : (header : Header) → IsHeader header → AreConsistent (new_state header) (map new_mixer header.sinks)
 consistent-first header h = record {
   core_consistent = new_keeps Stream.spec header h;
-  carried = new_carry IsStream header;
+  carried = new_carry HasStream header;
   count = length-map header.sinks new_mixer;
   each = λ index s m there mixer. new-mixer-is header index s m there mixer;
 }

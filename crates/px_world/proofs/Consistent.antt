@@ -12,7 +12,7 @@ use Rattle.px_msg.specs.View.{message_of}
 use Rattle.px_model.specs.Message.{Message}
 use Rattle.px_model.specs.Orderly.{IsOrderly, inputs_left_by}
 use Rattle.px_model.specs.Sink.{Sink, IsSink, specs_of}
-use Rattle.px_model.specs.Stream.{Stream, IsStream}
+use Rattle.px_model.specs.Stream.{Stream}
 use Rattle.px_model.specs.Turn.{AreFor, BringsStream, turn_notices, stopped_notices}
 use Rattle.px_model.proofs.Rounds as rounds
 use Rattle.px_model.proofs.Matching as matching
@@ -25,11 +25,11 @@ use Rattle.px_core.specs.Parcels.{Carries, Takes, AllCarry}
 use Rattle.px_core.specs.Hearing.{posted_by_steps}
 use Rattle.px_core.specs.Step.{Step, sweep, out, stepped_by}
 use Rattle.px_core.proofs.HearingLaws.{Heard, heard_by, posted_joined, nothing_posted, outs_take, steps_sinks}
-use Rattle.px_core.proofs.ParcelLaws.{steps_carry, posted_carry}
+use Rattle.px_core.proofs.ParcelLaws.{AreWhole, steps_carry, posted_carry}
 use Rattle.px_core.proofs.StepLaws.{steps_keep}
 use Rattle.px_world.specs.World.{Mixer}
 use Rattle.px_world.specs.Event.{is_to_stop, mixer_stopped, mixer_played, mixer_turned}
-use Rattle.px_world.specs.Consistency.{GivesStream, IsMixerOf, AreConsistent}
+use Rattle.px_world.specs.Consistency.{HasStream, GivesStream, IsMixerOf, AreConsistent}
 use Rattle.px_world.proofs.Giving.{join_gives, turn_gives, stop_gives}
 use Rattle.px_world.proofs.Histories.{get-set_same, get-set_other}
 
@@ -52,11 +52,15 @@ same_sinks core steps index s there = sym (ap (λ sinks. slice_get sinks index) 
 same_mixer : (core after : State Stream) (index : ℕ) (s : SinkSpec) (m : Mixer) → inputs_there after (sink_id index) ≡ inputs_there core (sink_id index) → IsMixerOf core index s m → IsMixerOf after index s m
 same_mixer core after index s m e h = record { spec = h.spec; consistent = h.consistent; inputs = h.inputs ∙ sym e; gives = h.gives }
 
-pub consistent-steps : (core : State Stream) (mixers : List Mixer) (steps : List (Step Stream)) → AreConsistent core mixers → AllByRecursion IsStep steps → AllByRecursion (Takes IsStream) steps → ((sink : SinkId) → AllByRecursion (Spares sink) steps)
+-- what a core's messages bring is such a stream, where what is queued is: a new stream is in no parcel
+whole : (core : State Stream) → AllCarry HasStream core → AreWhole HasStream core
+whole core carried = record { carry = carried; unborn = λ i l. tt }
+
+pub consistent-steps : (core : State Stream) (mixers : List Mixer) (steps : List (Step Stream)) → AreConsistent core mixers → AllByRecursion IsStep steps → AllByRecursion (Takes HasStream) steps → ((sink : SinkId) → AllByRecursion (Spares sink) steps)
     → AreConsistent (stepped_by Stream.spec core steps) mixers
 consistent-steps core mixers steps h is takes spares = record {
   core_consistent = steps_keep Stream.spec core steps is h.core_consistent;
-  carried = steps_carry IsStream Stream.spec steps core is takes h.core_consistent h.carried;
+  carried = (steps_carry HasStream Stream.spec steps core is takes h.core_consistent (whole core h.carried)).carry;
   count = h.count ∙ sym (ap length (steps_sinks Stream.spec core steps));
   each = λ index s m there mixer.
       let at = same_sinks core steps index s there in
@@ -65,7 +69,7 @@ consistent-steps core mixers steps h is takes spares = record {
 
 -- ---- the messages of a turn
 
-brings_stream : (m : Msg Stream) → Carries IsStream m → BringsStream (view m)
+brings_stream : (m : Msg Stream) → Carries HasStream m → BringsStream (view m)
 brings_stream (New n) h = tt
 brings_stream (Attach input parcel feed factors) h = h.0
 brings_stream (Detach input) h = tt
@@ -79,7 +83,7 @@ brings_stream (Attr input attr) h = tt
 brings_stream (Factors each) h = tt
 brings_stream (Query input tag) h = tt
 
-all_bring : (ms : List (Msg Stream)) → AllByRecursion (Carries IsStream) ms → AllByRecursion BringsStream (map view ms)
+all_bring : (ms : List (Msg Stream)) → AllByRecursion (Carries HasStream) ms → AllByRecursion BringsStream (map view ms)
 all_bring [] h = tt
 all_bring (m ∷ ms) h = (brings_stream m h.0, all_bring ms h.1)
 
@@ -90,15 +94,15 @@ outs_are : (n : ℕ) (sink : SinkId) → AllByRecursion IsStep (outs_of n sink)
 outs_are zero sink = tt
 outs_are (suc n) sink = (tt, outs_are n sink)
 
-outs_take_none : (n : ℕ) (sink : SinkId) → AllByRecursion (Takes IsStream) (outs_of n sink)
+outs_take_none : (n : ℕ) (sink : SinkId) → AllByRecursion (Takes HasStream) (outs_of n sink)
 outs_take_none zero sink = tt
 outs_take_none (suc n) sink = (tt, outs_take_none n sink)
 
 -- the parcels among them
-carried_outs : (core : State Stream) (k n : ℕ) → IsConsistent Stream.spec core → AllCarry IsStream core → AllByRecursion (Carries IsStream) (take n (waiting_for core (sink_id k)))
+carried_outs : (core : State Stream) (k n : ℕ) → IsConsistent Stream.spec core → AllCarry HasStream core → AllByRecursion (Carries HasStream) (take n (waiting_for core (sink_id k)))
 carried_outs core k n consistent carried =
-    subst (AllByRecursion (Carries IsStream)) (outs_take Stream.spec (sink_id k) n core consistent)
-    (posted_carry IsStream Stream.spec (sink_id k) (outs_of n (sink_id k)) core (outs_are n (sink_id k)) (outs_take_none n (sink_id k)) consistent carried)
+    subst (AllByRecursion (Carries HasStream)) (outs_take Stream.spec (sink_id k) n core consistent)
+    (posted_carry HasStream Stream.spec (sink_id k) (outs_of n (sink_id k)) core (outs_are n (sink_id k)) (outs_take_none n (sink_id k)) consistent (whole core carried))
 
 heard_outs : (core : State Stream) (k : ℕ) (s : SinkSpec) (n : ℕ) → IsConsistent Stream.spec core → slice_get core.sinks k ≡ Some s
     → Heard Stream.spec s (inputs_there core (sink_id k)) (inputs_there (stepped_by Stream.spec core (replicate n (out (sink_id k)))) (sink_id k)) (take n (waiting_for core (sink_id k)))
@@ -127,7 +131,7 @@ steps_are : (n k : ℕ) → AllByRecursion IsStep (turn_steps n k)
 steps_are zero k = (tt, tt)
 steps_are (suc n) k = (tt, steps_are n k)
 
-steps_take_none : (n k : ℕ) → AllByRecursion (Takes IsStream) (turn_steps n k)
+steps_take_none : (n k : ℕ) → AllByRecursion (Takes HasStream) (turn_steps n k)
 steps_take_none zero k = (tt, tt)
 steps_take_none (suc n) k = (tt, steps_take_none n k)
 
@@ -195,7 +199,7 @@ module _ (core : State Stream) (mixers : List Mixer) (k : ℕ) (s : SinkSpec) (m
   turn_consistent : AreConsistent (stepped_by Stream.spec core (turn_steps n k)) (set mixers k next)
   turn_consistent = record {
     core_consistent = steps_keep Stream.spec core (turn_steps n k) (steps_are n k) h.core_consistent;
-    carried = steps_carry IsStream Stream.spec (turn_steps n k) core (steps_are n k) (steps_take_none n k) h.core_consistent h.carried;
+    carried = (steps_carry HasStream Stream.spec (turn_steps n k) core (steps_are n k) (steps_take_none n k) h.core_consistent (whole core h.carried)).carry;
     count = length-set mixers k next ∙ (h.count ∙ sym (ap length (steps_sinks Stream.spec core (turn_steps n k))));
     each = λ index t x spec at. each_is index t x spec at (same_or_not k index);
   }

@@ -12,7 +12,7 @@ use Rattle.px_frame.specs.declared.fault.FrameError.TheVariants.{Fault, Failed, 
 use Rattle.px_frame.specs.declared.frame.Frame.{Frame}
 use Rattle.px_frame.specs.Frame.{IsBody}
 use Rattle.px_frame.specs.Progress.{GivesBodies}
-use Rattle.px_model.specs.Stream.{Stream, IsStream}
+use Rattle.px_model.specs.Stream.{Stream}
 use Rattle.px_model.specs.Frame.{SampleSpec}
 use Rattle.px_state.specs.declared.effect.Effect.{Effect}
 use Rattle.px_outcome.specs.declared.input.Connection.{Connection}
@@ -27,7 +27,7 @@ use Rattle.px_world.specs.declared.fault.WorldFault.TheVariants.{Live, NotLive}
 use Rattle.px_world.specs.World.{Link, Mixer, link_of}
 use Rattle.px_world.specs.Admission.{if_new, if_named}
 use Rattle.px_world.specs.Running.{is_door, Open, steps_given}
-use Rattle.px_world.specs.Consistency.{AreConsistent}
+use Rattle.px_world.specs.Consistency.{HasStream, AreConsistent}
 use Rattle.px_world.proofs.Openings.{door-absent, refused-there}
 use Rattle.px_world.proofs.Going.{all-first, all-rest}
 use Rattle.px_world.proofs.Consistent.{consistent-steps}
@@ -91,12 +91,12 @@ given-are conn (Err (Fault frames fault at)) h = frames-are conn frames (broken 
 given-are conn (Err (Failed fault at)) h = tt
 given-are conn (Err NoMemory) h = tt
 
-frames-take : (conn : ConnId) (frames : List Frame) (rest : List (Step Stream)) → AllByRecursion (Takes IsStream) rest → AllByRecursion (Takes IsStream) (map (frame conn) frames ++ rest)
+frames-take : (conn : ConnId) (frames : List Frame) (rest : List (Step Stream)) → AllByRecursion (Takes HasStream) rest → AllByRecursion (Takes HasStream) (map (frame conn) frames ++ rest)
 frames-take conn [] rest r = r
 frames-take conn (f ∷ frames) rest r = (tt, frames-take conn frames rest r)
 
-given-take : (conn : ConnId) (given : Result (List Frame) FrameError) → AllByRecursion (Takes IsStream) (steps_given conn given)
-given-take conn (Ok frames) = subst (AllByRecursion (Takes IsStream)) (append-nil (map (frame conn) frames)) (frames-take conn frames [] tt)
+given-take : (conn : ConnId) (given : Result (List Frame) FrameError) → AllByRecursion (Takes HasStream) (steps_given conn given)
+given-take conn (Ok frames) = subst (AllByRecursion (Takes HasStream)) (append-nil (map (frame conn) frames)) (frames-take conn frames [] tt)
 given-take conn (Err (Fault frames fault at)) = frames-take conn frames (broken conn fault at ∷ []) (tt, tt)
 given-take conn (Err (Failed fault at)) = tt
 given-take conn (Err NoMemory) = tt
@@ -110,7 +110,7 @@ given-spare sink conn (Err NoMemory) = tt
 -- so what is kept stays kept
 
 module _ (core next last : State Stream) (mixers : List Mixer) (h : AreConsistent core mixers) where
-  pub consistent-one : (s : Step Stream) → IsStep s → Takes IsStream s → ((sink : SinkId) → Spares sink s) → next ≡ stepped Stream.spec core s → last ≡ stepped_by Stream.spec next (sweep ∷ []) → AreConsistent last mixers
+  pub consistent-one : (s : Step Stream) → IsStep s → Takes HasStream s → ((sink : SinkId) → Spares sink s) → next ≡ stepped Stream.spec core s → last ≡ stepped_by Stream.spec next (sweep ∷ []) → AreConsistent last mixers
   consistent-one s is takes spares e l =
       subst (λ t. AreConsistent t mixers) (sym (one-swept Stream.spec core next s last e l))
       (consistent-steps core mixers (s ∷ sweep ∷ []) h (is, (tt, tt)) (takes, (tt, tt)) (λ sink. (spares sink, (tt, tt))))

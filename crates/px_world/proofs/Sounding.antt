@@ -7,7 +7,7 @@ use Rattle.std.proofs.lemmas.List.{length-map, map-set}
 use Rattle.std.proofs.lemmas.Option.{none-some, same_Some, slice_get-map, slice_get-get_or}
 use Rattle.px_types.specs.declared.ids.SinkId.{SinkId}
 use Rattle.px_session.specs.declared.event.Event.TheVariants.{Turn, Collect}
-use Rattle.px_model.specs.Stream.{Stream, IsStream}
+use Rattle.px_model.specs.Stream.{Stream}
 use Rattle.px_model.specs.Notice.{Notice}
 use Rattle.px_model.specs.Turn.{AreFor}
 use Rattle.px_model.specs.Sink.{IsSink}
@@ -24,7 +24,7 @@ use Rattle.px_world.specs.World.{World, Mixer}
 use Rattle.px_world.specs.Admission.{LAST_FILLED, too_many, or_else, refusal_of, turn_refusal, collect_refusal}
 use Rattle.px_world.specs.Event.{notices_of, change_at, mixer_turned, mixer_collected, played_of}
 use Rattle.px_world.specs.Doing.{Unless, Plays}
-use Rattle.px_world.specs.Consistency.{GivesStream, AreConsistent}
+use Rattle.px_world.specs.Consistency.{HasStream, GivesStream, AreConsistent}
 use Rattle.px_world.proofs.Giving.{take_gives, drop_gives}
 use Rattle.px_world.proofs.Consistent.{consistent-steps, consistent-turn, consistent-notices, turn-messages}
 
@@ -181,7 +181,7 @@ notices-are : (sink : SinkId) (ns : List (Notice Stream)) → AllByRecursion IsS
 notices-are sink [] = (tt, tt)
 notices-are sink (n ∷ ns) = (tt, notices-are sink ns)
 
-notices-take : (sink : SinkId) (ns : List (Notice Stream)) → AllByRecursion GivesStream ns → AllByRecursion (Takes IsStream) (map (λ (n : Notice Stream). notice sink (notice_for n)) ns ++ sweep ∷ [])
+notices-take : (sink : SinkId) (ns : List (Notice Stream)) → AllByRecursion GivesStream ns → AllByRecursion (Takes HasStream) (map (λ (n : Notice Stream). notice sink (notice_for n)) ns ++ sweep ∷ [])
 notices-take sink [] h = (tt, tt)
 notices-take sink (n ∷ ns) h = (h.0, notices-take sink ns h.1)
 

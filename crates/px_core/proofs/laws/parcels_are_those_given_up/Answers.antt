@@ -5,4 +5,4 @@ pub returns-clause-waiting : goal.returns-clause-waiting
 returns-clause-waiting g c = all_carried
 
 pub returns-clause-posted : goal.returns-clause-posted
-returns-clause-posted g c = all_posted
+returns-clause-posted g c = λ spec_of header steps sink h is. all_posted spec_of header steps h is sink

@@ -5,6 +5,7 @@ use Rattle.px_core.specs.Step.{stepped}
 use Rattle.px_core.proofs.StepLaws as steps
 use Rattle.px_core.proofs.HearingLaws as hearing
 use Rattle.px_core.proofs.HeardLaws.{sent_by_mask, all_effects}
+use Rattle.px_core.proofs.OwnLaws.{say_of_clients}
 use Rattle.px_core.proofs.laws.subscribers_hear_what_became.Goals as goal
 
 pub returns-clause-effects : goal.returns-clause-effects
@@ -16,3 +17,6 @@ returns-clause-sent g c = λ spec_of state s conn is h.
 
 pub returns-clause-each : goal.returns-clause-each
 returns-clause-each g c = λ before after. say_what_became (given_by after) (infos_of before) (infos_of after)
+
+pub returns-clause-clients : goal.returns-clause-clients
+returns-clause-clients g c = say_of_clients
