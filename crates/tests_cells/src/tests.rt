@@ -1,4 +1,5 @@
 mod crowded;
 mod full;
 mod lane;
+mod numbered;
 mod threads;

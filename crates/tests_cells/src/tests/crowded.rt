@@ -1,6 +1,7 @@
 ghost use Rattle.std.specs.Prelude.{◌≡◌, []};
 
-use px_annals::{LaneEntry, PlainMsg, RecordFault, Recorder};
+use crate::tests::numbered::number_after;
+use px_annals::{LaneEntry, RecordFault, Recorder};
 use std::alloc::Global;
 
 /// A recorder that is full once, when it holds `full_at` entries.
@@ -9,14 +10,6 @@ pub struct Crowded {
     entries: Vec<LaneEntry>,
     full_at: usize,
     fulls: u64,
-}
-
-// Whether a message has the factors for input `number`.
-fn is_for(message: &PlainMsg, number: u32) -> bool {
-    match message {
-        PlainMsg::Factors(list) => matches!(list.as_slice(), [one] if one.input == number),
-        _ => false,
-    }
 }
 
 impl Crowded {
@@ -34,12 +27,7 @@ impl Crowded {
     pub fn recorded(&self) -> Option<u32> {
         let mut number = 0;
         for entry in self.entries.as_slice() {
-            for message in entry.messages.as_slice() {
-                if !is_for(message, number) {
-                    return None;
-                }
-                number = number.checked_add(1)?;
-            }
+            number = number_after(entry, number)?;
         }
         Some(number)
     }

@@ -3,6 +3,7 @@ ghost use Rattle.crossbeam_queue.specs.Passes.{IsPassOf};
 ghost use Rattle.px_mail.specs.Mailbox.{key_of, posted_by};
 ghost use Rattle.tests_cells.specs.Gains.{Sends};
 
+use crate::tests::crowded::Crowded;
 use crate::tests::lane::{Cell, factors_for, opened, sent};
 use px_block::Fresh;
 use px_mail::{Mailbox, PostPass};
@@ -16,7 +17,7 @@ use std::sync::Wait;
 fn turns_made<R: Wait>(
     rt: &R,
     alloc: Global,
-    cell: &mut Cell,
+    cell: &mut Cell<Crowded>,
     inbox: &Mailbox<Msg<Stream>>,
     mut post: PostPass<Msg<Stream>>,
 ) -> Mem<u32>
@@ -35,7 +36,7 @@ fn turns_made<R: Wait>(
 }
 
 // Whether all messages stand in the history in order, each once, and the cell holds none.
-fn misses_nothing(cell: Cell) -> bool {
+fn misses_nothing(cell: Cell<Crowded>) -> bool {
     let parts = cell.into_parts();
     let none_held = parts.messages.len() == 0 && parts.recorder.fulls() == 1;
     let all_noted = parts.recorder.recorded() == Some(5);
@@ -45,7 +46,7 @@ fn misses_nothing(cell: Cell) -> bool {
 
 // Five messages, a turn after each, a recorder that is full once, at `full_at` entries, and a last turn.
 fn has_room_again<R: Wait>(rt: &R, alloc: Global, full_at: usize) -> Mem<bool> {
-    let (mut cell, inbox, post) = opened(alloc, full_at)?;
+    let (mut cell, inbox, post) = opened(alloc, Crowded::new(alloc, full_at))?;
     let turns = turns_made(rt, alloc, &mut cell, &inbox, post);
     let last = cell.turn(rt, alloc, &mut Fresh::new(alloc)).is_ok();
     Ok(misses_nothing(cell) && last && matches!(turns, Ok(4)))

@@ -1,10 +1,10 @@
-ghost use Rattle.std.specs.Prelude.{◌≡◌, [], Some, IfOk};
+ghost use Rattle.std.specs.Prelude.{◌≡◌, [], Some, IfOk, IfSome};
 ghost use Rattle.std.specs.Arc.{arc_value};
 ghost use Rattle.crossbeam_queue.specs.Passes.{IsPassOf};
 ghost use Rattle.px_mail.specs.Mailbox.{key_of, posted_by};
 ghost use Rattle.tests_cells.specs.Gains.{IsGain, IsNew, Sends};
 
-use crate::tests::crowded::Crowded;
+use px_annals::{LaneEntry, Recorder};
 use px_cell::{Boxes, LaneCell, LaneEnds, LanePasses};
 use px_chmap::Map;
 use px_ends::{DeviceShape, MemDevice};
@@ -22,7 +22,7 @@ use std::thread;
 
 pub type Inbox = Arc<Mailbox<Msg<Stream>>>;
 
-pub type Cell = LaneCell<MemDevice, Crowded>;
+pub type Cell<E> = LaneCell<MemDevice, E>;
 
 // 16 bits, mono.
 const SPEC: Spec = Spec {
@@ -55,8 +55,12 @@ fn mixer(alloc: Global) -> Mem<Lane<MemDevice>>
     Lane::new(alloc, &sink, MemDevice::new(alloc, &SHAPE)?)
 }
 
-/// A cell with a recorder that is full once, at `full_at` entries, its inbox, and the posting end of that.
-pub fn opened(alloc: Global, full_at: usize) -> Mem<(Cell, Inbox, PostPass<Msg<Stream>>)>
+/// A cell with this recorder, its inbox, and the posting end of that.
+pub fn opened<E: Recorder<LaneEntry> + Drop>(
+    alloc: Global,
+    recorder: E,
+) -> Mem<(Cell<E>, Inbox, PostPass<Msg<Stream>>)>
+    requires { IfSome (E.visible recorder) (λ entries. entries ≡ []) }
     ensures pass { IfOk result (λ made. IsPassOf (arc_value made.1).queue made.2.pass) }
     ensures sends { IfOk result (λ made. Sends (key_of made.2.pass) (posted_by made.2.pass)) }
 {
@@ -78,7 +82,7 @@ pub fn opened(alloc: Global, full_at: usize) -> Mem<(Cell, Inbox, PostPass<Msg<S
         },
     };
     let lane = mixer(alloc)?;
-    let cell = LaneCell::new(alloc, lane, Crowded::new(alloc, full_at), ends)?;
+    let cell = LaneCell::new(alloc, lane, recorder, ends)?;
     Ok((cell, twin, post))
 }
 

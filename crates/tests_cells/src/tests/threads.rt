@@ -4,6 +4,8 @@ ghost use Rattle.px_mail.specs.Mailbox.{key_of, posted_by};
 ghost use Rattle.tests_cells.specs.Gains.{Sends};
 
 use crate::tests::lane::{Cell, factors_for, opened, sent};
+use crate::tests::numbered::number_after;
+use px_annals::{LaneEntry, MemRecorder};
 use px_block::Fresh;
 use px_mail::{Mailbox, PostPass};
 use px_msg::Msg;
@@ -18,6 +20,13 @@ use std::thread::Threads;
 const MESSAGES: u32 = 1_000;
 
 const TURNS: u32 = 1_000_000;
+
+// The most that the history of the turns holds.
+const ENTRIES: usize = 1_000_000;
+
+const BYTES: usize = 268_435_456;
+
+type Recorded = Cell<MemRecorder<LaneEntry>>;
 
 // Posts all messages in the order of their numbers.
 fn sends<R: Wait>(
@@ -39,7 +48,7 @@ fn sends<R: Wait>(
 }
 
 // Makes turns until `MESSAGES` messages were taken.
-fn turns<R: Wait>(rt: &R, alloc: Global, mut cell: Cell) -> (Cell, u32) {
+fn turns<R: Wait>(rt: &R, alloc: Global, mut cell: Recorded) -> (Recorded, u32) {
     let mut blocks = Fresh::new(alloc);
     let mut taken = 0;
     for _ in 0..TURNS {
@@ -56,10 +65,10 @@ fn turns<R: Wait>(rt: &R, alloc: Global, mut cell: Cell) -> (Cell, u32) {
 fn exchanged<R: Threads + Wait + Sync>(
     rt: &R,
     alloc: Global,
-    cell: Cell,
+    cell: Recorded,
     inbox: &Mailbox<Msg<Stream>>,
     post: PostPass<Msg<Stream>>,
-) -> (Cell, u32)
+) -> (Recorded, u32)
     requires pass { IsPassOf inbox.now.queue post.pass }
     requires sends { Sends (key_of post.pass) (posted_by post.pass) }
 {
@@ -69,20 +78,29 @@ fn exchanged<R: Threads + Wait + Sync>(
             requires { IsPassOf inbox.now.queue post.pass × Sends (key_of post.pass) (posted_by post.pass) }
             ensures { IsPassOf inbox.entry.now.queue result.pass }
         { sends(rt, alloc, inbox, post) },
-        move || -> (Cell, u32) { turns(rt, alloc, cell) },
+        move || -> (Recorded, u32) { turns(rt, alloc, cell) },
     );
     made
 }
 
+// The number of messages in a history, where they are numbered from 0 in order.
+fn recorded(history: &MemRecorder<LaneEntry>) -> Option<u32> {
+    let mut number = 0;
+    for at in 0..history.len() {
+        number = number_after(history.entry(at)?, number)?;
+    }
+    Some(number)
+}
+
 // The number of messages in the history of a cell that ends, where they are in order.
-fn recorded(cell: Cell) -> Option<u32> {
-    cell.into_parts().recorder.recorded()
+fn left(cell: Recorded) -> Option<u32> {
+    recorded(&cell.into_parts().recorder)
 }
 
 fn exchanges<R: Threads + Wait + Sync>(rt: &R, alloc: Global) -> Mem<bool> {
-    let (cell, inbox, post) = opened(alloc, usize::MAX)?;
+    let (cell, inbox, post) = opened(alloc, MemRecorder::new(alloc, ENTRIES, BYTES)?)?;
     let (cell, taken) = exchanged(rt, alloc, cell, &inbox, post);
-    Ok(recorded(cell) == Some(MESSAGES) && taken == MESSAGES)
+    Ok(left(cell) == Some(MESSAGES) && taken == MESSAGES)
 }
 
 #[test]
