@@ -4,6 +4,7 @@ ghost use Rattle.std.specs.Prelude.{◌≡◌, IfOk, IfErr, OnOk, OnErr, None, S
 ghost use Rattle.px_outcome.specs.declared.input.Standing.TheVariants.{Moving};
 ghost use Rattle.px_outcome.specs.Target.{IsTarget};
 ghost use Rattle.px_sinks.specs.Sinks.{target_at};
+ghost use Rattle.px_subscribe.specs.Moments.{AreShown};
 ghost use Rattle.px_core.specs.Consistency.{IsConsistent};
 ghost use Rattle.px_core.specs.Notice.{arrival_at, arrival_between, arrived_with};
 ghost use Rattle.px_state.specs.State.{input_of};
@@ -87,6 +88,7 @@ pub(crate) fn arrive_with<P: Parcel + Drop>(
     requires consistent { IsConsistent P.spec_of (state_of tables.old) }
     requires here { input_of tables.old.inputs.items x.now.index ≡ Some x.now }
     requires moves { x.now.standing ≡ Moving to }
+    requires after { AreShown (answered (state_of tables.old) (arrived_with x.now.index parcel (arrival_at (state_of tables.old) to x.now))).inputs }
     ensures effects { IfOk result (λ effects. effects ≡ answer_effects None (state_of tables.old) (arrived_with x.now.index parcel (arrival_at (state_of tables.old) to x.now))) }
     ensures after { OnOk result (state_of tables.new ≡ answered (state_of tables.old) (arrived_with x.now.index parcel (arrival_at (state_of tables.old) to x.now))) }
     ensures back { IfErr result (λ back. back ≡ parcel) }

@@ -10,6 +10,7 @@ ghost use Rattle.px_outcome.specs.declared.input.Connection.{Connection};
 ghost use Rattle.px_outcome.specs.declared.input.Input.{Input};
 ghost use Rattle.px_outcome.specs.Outcome.{changing};
 ghost use Rattle.px_header.specs.HeaderRules.{AreSinks};
+ghost use Rattle.px_subscribe.specs.Moments.{AreShown};
 ghost use Rattle.px_state.specs.State.{connection_of, marked_of, is_from};
 ghost use Rattle.px_core.specs.Connecting.{is_full, connected, going_on, ended, ends, swept, sweep_of};
 ghost use Rattle.px_state.specs.Change.{joined};
@@ -141,7 +142,9 @@ fn has_marked(connections: &[Connection]) -> bool
 /// Removes the connections that have ended. Where there is no memory for it nothing has changed. Most sweeps find none, and
 /// end with that look.
 pub(crate) fn sweep_away<P: Drop>(alloc: Global, tables: &mut Tables<P>) -> Mem<Effects>
-    requires { AreSinks [] tables.old.sinks }
+    requires sinks { AreSinks [] tables.old.sinks }
+    requires before { AreShown tables.old.inputs.items }
+    requires after { AreShown (answered (state_of tables.old) (sweep_of (state_of tables.old))).inputs }
     ensures effects { IfOk result (λ effects. effects ≡ answer_effects None (state_of tables.old) (sweep_of (state_of tables.old))) }
     ensures after { OnOk result (state_of tables.new ≡ answered (state_of tables.old) (sweep_of (state_of tables.old))) }
     ensures err { OnErr result (state_of tables.new ≡ state_of tables.old) }
@@ -156,6 +159,7 @@ pub(crate) fn sweep_away<P: Drop>(alloc: Global, tables: &mut Tables<P>) -> Mem<
 // Accepts a client. Where there is no memory for it nothing has changed.
 fn admit<P>(alloc: Global, tables: &mut Tables<P>, conn: ConnId) -> Mem<Effects>
     requires sinks { AreSinks [] tables.old.sinks }
+    requires shown { AreShown tables.old.inputs.items }
     requires room { is_full (state_of tables.old) ≡ false }
     ensures effects { IfOk result (λ effects. effects ≡ step_events (state_of tables.old) (joined conn (state_of tables.old))) }
     ensures after { OnOk result (state_of tables.new ≡ joined conn (state_of tables.old)) }
@@ -174,7 +178,8 @@ fn admit<P>(alloc: Global, tables: &mut Tables<P>, conn: ConnId) -> Mem<Effects>
 /// A client connects. A number in use already changes nothing; where no more are accepted the server ends the new one. Where
 /// there is no memory for it nothing has changed.
 pub(crate) fn connect<P>(alloc: Global, tables: &mut Tables<P>, conn: ConnId) -> Mem<Effects>
-    requires { AreSinks [] tables.old.sinks }
+    requires sinks { AreSinks [] tables.old.sinks }
+    requires shown { AreShown tables.old.inputs.items }
     ensures effects { IfOk result (λ effects. effects ≡ admitted_effects (connection_of tables.old.connections.items conn) conn (state_of tables.old)) }
     ensures after { OnOk result (state_of tables.new ≡ connected (connection_of tables.old.connections.items conn) conn (state_of tables.old)) }
     ensures err { OnErr result (state_of tables.new ≡ state_of tables.old) }

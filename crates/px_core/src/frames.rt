@@ -4,6 +4,7 @@ ghost use Rattle.std.specs.Prelude.{◌≡◌, [], Some, IfOk, IfErr, OnOk, OnEr
 ghost use Rattle.std.specs.List.{AllByRecursion};
 ghost use Rattle.px_frame.specs.Frame.{IsBody};
 ghost use Rattle.px_header.specs.HeaderRules.{AreSinks};
+ghost use Rattle.px_subscribe.specs.Moments.{AreShown};
 ghost use Rattle.px_core.specs.Command.{packet_answer};
 ghost use Rattle.px_core.specs.Grouped.{AreGrouped};
 ghost use Rattle.px_core.specs.Consistency.{IsInput, IsRising};
@@ -31,6 +32,7 @@ fn control<P: Drop>(
     requires sinks { AreSinks [] tables.old.sinks }
     requires inputs { AllByRecursion (IsInput tables.old.sinks tables.old.inputs_made) tables.old.inputs.items }
     requires groups { AreGrouped [] tables.old.sinks tables.old.inputs.items tables.old.groups.items }
+    requires after { AreShown (answered (state_of tables.old) (packet_answer (state_of tables.old) c.now at packet.now)).inputs }
     ensures effects { IfOk result (λ effects. effects ≡ answer_effects (Some conn) (state_of tables.old) (packet_answer (state_of tables.old) c.now at packet.now)) }
     ensures after { OnOk result (state_of tables.new ≡ answered (state_of tables.old) (packet_answer (state_of tables.old) c.now at packet.now)) }
     ensures err { OnErr result (state_of tables.new ≡ state_of tables.old) }
@@ -54,6 +56,7 @@ fn body<P: Drop>(
     requires groups { AreGrouped [] tables.old.sinks tables.old.inputs.items tables.old.groups.items }
     requires rising { IsRising tables.old.inputs.items }
     requires body { IsBody body }
+    requires after { AreShown (answered (state_of tables.old) (body_answer (state_of tables.old) c.now at body)).inputs }
     ensures effects { IfOk result (λ effects. effects ≡ answer_effects (Some conn) (state_of tables.old) (body_answer (state_of tables.old) c.now at body)) }
     ensures after { OnOk result (state_of tables.new ≡ answered (state_of tables.old) (body_answer (state_of tables.old) c.now at body)) }
     ensures back { IfErr result (λ back. back ≡ body) }
@@ -94,6 +97,7 @@ pub(crate) fn take<P: Drop>(
     requires groups { AreGrouped [] tables.old.sinks tables.old.inputs.items tables.old.groups.items }
     requires rising { IsRising tables.old.inputs.items }
     requires body { IsBody frame.body }
+    requires after { AreShown (answered (state_of tables.old) (frame_answer (state_of tables.old) conn frame)).inputs }
     ensures effects { IfOk result (λ effects. effects ≡ answer_effects (Some conn) (state_of tables.old) (frame_answer (state_of tables.old) conn frame)) }
     ensures after { OnOk result (state_of tables.new ≡ answered (state_of tables.old) (frame_answer (state_of tables.old) conn frame)) }
     ensures back { IfErr result (λ back. back ≡ frame) }

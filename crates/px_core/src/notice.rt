@@ -3,6 +3,7 @@
 
 ghost use Rattle.std.specs.Prelude.{◌≡◌, [], None, Some, slice_get, IfOk, IfErr, OnOk, OnErr};
 ghost use Rattle.px_header.specs.HeaderRules.{AreSinks};
+ghost use Rattle.px_subscribe.specs.Moments.{AreShown};
 ghost use Rattle.px_ctl_play.specs.Notified.{IsMemberIn};
 ghost use Rattle.px_core.specs.Consistency.{IsConsistent, IsRising};
 ghost use Rattle.px_core.specs.Notice.{IsNews, owner_of, notified_of, drained_of, measured_of, input_on, left_of, given_up, notice_answer};
@@ -142,6 +143,8 @@ fn take_news<P: Parcel + Drop>(
     requires sinks { AreSinks [] tables.old.sinks }
     requires rising { IsRising tables.old.inputs.items }
     requires news { IsNews notice }
+    requires before { AreShown tables.old.inputs.items }
+    requires after { AreShown (answered (state_of tables.old) (notice_answer P.spec_of (state_of tables.old) sink notice)).inputs }
     ensures effects { IfOk result (λ effects. effects ≡ answer_effects None (state_of tables.old) (notice_answer P.spec_of (state_of tables.old) sink notice)) }
     ensures after { OnOk result (state_of tables.new ≡ answered (state_of tables.old) (notice_answer P.spec_of (state_of tables.old) sink notice)) }
     ensures back { IfErr result (λ back. back ≡ notice) }
@@ -166,6 +169,8 @@ fn take_left<P: Parcel + Drop>(
 ) -> Result<Effects, P>
     requires sinks { AreSinks [] tables.old.sinks }
     requires member { IsMemberIn (slice_get tables.old.groups.items sink.0) x }
+    requires before { AreShown tables.old.inputs.items }
+    requires after { AreShown (answered (state_of tables.old) (left_of P.spec_of (state_of tables.old) sink (Some x) parcel)).inputs }
     ensures effects { IfOk result (λ effects. effects ≡ answer_effects None (state_of tables.old) (left_of P.spec_of (state_of tables.old) sink (Some x) parcel)) }
     ensures after { OnOk result (state_of tables.new ≡ answered (state_of tables.old) (left_of P.spec_of (state_of tables.old) sink (Some x) parcel)) }
     ensures back { IfErr result (λ back. back ≡ parcel) }
@@ -201,6 +206,7 @@ fn leave_with<P: Parcel + Drop>(
     requires consistent { IsConsistent P.spec_of (state_of tables.old) }
     requires here { input_of tables.old.inputs.items x.index ≡ Some x }
     requires member { IsMemberIn (slice_get tables.old.groups.items sink.0) x }
+    requires after { AreShown (answered (state_of tables.old) (given_up P.spec_of (state_of tables.old) sink (Some x) parcel)).inputs }
     ensures effects { IfOk result (λ effects. effects ≡ answer_effects None (state_of tables.old) (given_up P.spec_of (state_of tables.old) sink (Some x) parcel)) }
     ensures after { OnOk result (state_of tables.new ≡ answered (state_of tables.old) (given_up P.spec_of (state_of tables.old) sink (Some x) parcel)) }
     ensures back { IfErr result (λ back. back ≡ parcel) }
@@ -227,7 +233,8 @@ fn detach<P: Parcel + Drop>(
     input: InputId,
     parcel: P,
 ) -> Result<Effects, P>
-    requires { IsConsistent P.spec_of (state_of tables.old) }
+    requires consistent { IsConsistent P.spec_of (state_of tables.old) }
+    requires after { AreShown (answered (state_of tables.old) (given_up P.spec_of (state_of tables.old) sink (input_on tables.old.inputs.items sink input) parcel)).inputs }
     ensures effects { IfOk result (λ effects. effects ≡ answer_effects None (state_of tables.old) (given_up P.spec_of (state_of tables.old) sink (input_on tables.old.inputs.items sink input) parcel)) }
     ensures after { OnOk result (state_of tables.new ≡ answered (state_of tables.old) (given_up P.spec_of (state_of tables.old) sink (input_on tables.old.inputs.items sink input) parcel)) }
     ensures back { IfErr result (λ back. back ≡ parcel) }

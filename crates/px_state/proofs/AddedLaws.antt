@@ -1,5 +1,5 @@
 -- The events of a step, as code adds them to its effects.
-use Rattle.std.proofs.Common.{◌≡◌, ◌+◌, true, List, [], ◌∷◌, ◌++◌, Option, None, ap, sym, ◌∙◌}
+use Rattle.std.proofs.Common.{◌≡◌, ◌+◌, true, List, [], ◌∷◌, ◌++◌, Option, None, ap, sym, subst, ◌∙◌}
 use Rattle.std.proofs.lemmas.List.{append-nil}
 use Rattle.px_types.specs.declared.ids.ConnId.{ConnId}
 use Rattle.px_types.specs.declared.ids.InputId.{InputId}
@@ -10,7 +10,7 @@ use Rattle.px_outcome.specs.declared.change.Change.TheVariants.{Arrives}
 use Rattle.px_outcome.specs.declared.sending.Sending.{Sending}
 use Rattle.px_header.specs.declared.header.SinkSpec.{SinkSpec}
 use Rattle.px_subscribe.specs.Scene.{Scene, scene_after, scene_arrived, scene_joined, are_quiet, are_deaf, nobody_hears}
-use Rattle.px_subscribe.specs.Moments.{notified_between}
+use Rattle.px_subscribe.specs.Moments.{AreShown, notified_between}
 use Rattle.px_state.specs.declared.effect.Effect.{Effect}
 use Rattle.px_state.specs.State.{State}
 use Rattle.px_state.specs.Change.{Change, committed}
@@ -19,7 +19,7 @@ use Rattle.px_state.specs.Outcome.{CoreOutcome, sent_all, closed_all, outcome_ef
 use Rattle.px_state.specs.Events.{scene_of, step_events}
 use Rattle.px_ctl_play.specs.Arrival.{Arriving, arriving_with}
 use Rattle.px_state.specs.Answered.{answered, answer_effects}
-use Rattle.px_state.proofs.SceneLaws.{events_are, changes_events, quiet_events, deaf_events, deaf_joins}
+use Rattle.px_state.proofs.SceneLaws.{changes_scene, events_are, changes_events, quiet_events, deaf_events, deaf_joins}
 
 pub none_added : (effects more : List Effect) → more ≡ [] → effects ≡ effects ++ more
 none_added effects more e = sym (append-nil effects) ∙ ap (λ (l : List Effect). effects ++ l) (sym e)
@@ -44,6 +44,22 @@ arrival_added P old new state input later sinks scene notified there s e added m
     added
     ∙ ap (λ (l : List Sending). old ++ sent_all l) (e ∙ (λ k. notified_between (there k) state.clients_made (s k) (scene_after (scene_arrived input (s k)) later)))
     ∙ ap (λ (l : List Effect). old ++ l) (sym (changes_events state (Arrives input m ∷ later)))
+
+-- ---- the inputs that infos show
+
+pub scene_shown : (P : Type 0) (state : State P) (scene : Scene) → scene ≡ scene_of state → AreShown state.inputs → AreShown scene.inputs
+scene_shown P state scene s h = subst (λ t. AreShown (Scene.inputs t)) (sym s) h
+
+pub changes_shown : (P : Type 0) (state : State P) (changes : List (Change P)) (scene : Scene) → scene ≡ scene_of state → AreShown (State.inputs (committed state changes)) → AreShown (Scene.inputs (scene_after scene changes))
+changes_shown P state changes scene s h = subst (λ t. AreShown (Scene.inputs t)) (changes_scene state changes ∙ ap (λ t. scene_after t changes) (sym s)) h
+
+pub arrived_shown : (P : Type 0) (state : State P) (input : InputId) (later : List (Change P)) (scene : Scene) → scene ≡ scene_of state → AreShown (Scene.inputs (scene_after (scene_arrived input (scene_of state)) later))
+    → AreShown (Scene.inputs (scene_after (scene_arrived input scene) later))
+arrived_shown P state input later scene s h = subst (λ t. AreShown (Scene.inputs (scene_after (scene_arrived input t) later))) (sym s) h
+
+pub arrival_shown : (P : Type 0) (state : State P) (input : InputId) (m : Msg P) (later : List (Change P)) → AreShown (State.inputs (committed state (Arrives input m ∷ later)))
+    → AreShown (Scene.inputs (scene_after (scene_arrived input (scene_of state)) later))
+arrival_shown P state input m later h = subst (λ t. AreShown (Scene.inputs t)) (changes_scene state (Arrives input m ∷ later)) h
 
 pub deaf_joined : (P : Type 0) (state : State P) (conn : ConnId) (effects : List Effect) → effects ≡ [] → are_deaf state.names.clients ≡ true → effects ≡ step_events state (joined conn state)
 deaf_joined P state conn effects none e = none ∙ sym (deaf_joins state conn e)

@@ -3,7 +3,10 @@
 ghost use Rattle.std.specs.Prelude.{◌≡◌, ◌+◌, [], length, IfOk, IfErr, OnOk, OnErr, None};
 ghost use Rattle.px_ctl_play.specs.Arrival.{arriving_with};
 ghost use Rattle.px_header.specs.HeaderRules.{AreSinks};
+ghost use Rattle.px_subscribe.specs.Moments.{AreShown};
+ghost use Rattle.px_subscribe.specs.Scene.{scene_after, scene_arrived};
 ghost use Rattle.px_state.specs.Answered.{answered, answer_effects};
+ghost use Rattle.px_state.specs.Events.{scene_of};
 ghost use Rattle.px_state.specs.Tables.{state_of, HasRoom};
 
 use crate::commit::{apply, commit, reserve};
@@ -24,7 +27,9 @@ fn arrival_effects<P>(
     input: InputId,
     made: &Arrival<Msg<P>, Group>,
 ) -> Mem<Effects>
-    requires { AreSinks [] tables.now.sinks }
+    requires sinks { AreSinks [] tables.now.sinks }
+    requires before { AreShown tables.now.inputs.items }
+    requires after { AreShown (scene_after (scene_arrived input (scene_of (state_of tables.now))) made.now.later).inputs }
     ensures { IfOk result (λ effects. (parcel : P) → effects ≡ answer_effects None (state_of tables.now) (arriving_with input parcel made.now)) }
 {
     let mut effects = notified_and_closed(alloc, &made.notified, &made.later)?;
@@ -39,7 +44,9 @@ fn effects_with_room<P>(
     input: InputId,
     made: &Arrival<Msg<P>, Group>,
 ) -> Mem<Effects>
-    requires { AreSinks [] tables.old.sinks }
+    requires sinks { AreSinks [] tables.old.sinks }
+    requires before { AreShown tables.old.inputs.items }
+    requires after { AreShown (scene_after (scene_arrived input (scene_of (state_of tables.old))) made.now.later).inputs }
     ensures effects { IfOk result (λ effects. (parcel : P) → effects ≡ answer_effects None (state_of tables.old) (arriving_with input parcel made.now)) }
     ensures state { state_of tables.new ≡ state_of tables.old }
     ensures room { OnOk result (HasRoom (length made.now.later + 1) tables.new) }
@@ -78,7 +85,9 @@ pub fn finish_arrival<P: Drop>(
     parcel: P,
     made: Arrival<Msg<P>, Group>,
 ) -> Result<Effects, P>
-    requires { AreSinks [] tables.old.sinks }
+    requires sinks { AreSinks [] tables.old.sinks }
+    requires before { AreShown tables.old.inputs.items }
+    requires after { AreShown (answered (state_of tables.old) (arriving_with input parcel made)).inputs }
     ensures effects { IfOk result (λ effects. effects ≡ answer_effects None (state_of tables.old) (arriving_with input parcel made)) }
     ensures after { OnOk result (state_of tables.new ≡ answered (state_of tables.old) (arriving_with input parcel made)) }
     ensures back { IfErr result (λ back. back ≡ parcel) }

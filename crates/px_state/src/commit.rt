@@ -4,6 +4,7 @@ ghost use Rattle.std.specs.Prelude.{◌≡◌, ◌≤◌, ◌+◌, [], ℕ, leng
 ghost use Rattle.std.specs.List.{find};
 ghost use Rattle.px_outcome.specs.declared.change.Change.TheVariants.{Made, Described, Leaves, Moves, Arrives, Released, Posted, Regrouped, Asked, Answered, Gone};
 ghost use Rattle.px_header.specs.HeaderRules.{AreSinks};
+ghost use Rattle.px_subscribe.specs.Moments.{AreShown};
 ghost use Rattle.px_state.specs.Change.{changed, committed, inputs_noted, posting, delaying, posting_to_input, ending, departs, arrives, releasing};
 ghost use Rattle.px_state.specs.Delayed.{is_of};
 ghost use Rattle.px_state.specs.Families.{IsOfInput};
@@ -355,7 +356,9 @@ fn effects_with_room<P>(
     tables: &mut Tables<P>,
     outcome: &StepOutcome<Msg<P>, Group>,
 ) -> Mem<Effects>
-    requires { AreSinks [] tables.old.sinks }
+    requires sinks { AreSinks [] tables.old.sinks }
+    requires before { AreShown tables.old.inputs.items }
+    requires after { AreShown (answered (state_of tables.old) outcome.now).inputs }
     ensures effects { IfOk result (λ effects. effects ≡ answer_effects asker (state_of tables.old) outcome.now) }
     ensures state { state_of tables.new ≡ state_of tables.old }
     ensures room { OnOk result (HasRoom (length outcome.now.changes) tables.new) }
@@ -373,7 +376,9 @@ pub fn finish<P: Drop>(
     asker: Option<ConnId>,
     outcome: StepOutcome<Msg<P>, Group>,
 ) -> Mem<Effects>
-    requires { AreSinks [] tables.old.sinks }
+    requires sinks { AreSinks [] tables.old.sinks }
+    requires before { AreShown tables.old.inputs.items }
+    requires after { AreShown (answered (state_of tables.old) outcome).inputs }
     ensures effects { IfOk result (λ effects. effects ≡ answer_effects asker (state_of tables.old) outcome) }
     ensures after { OnOk result (state_of tables.new ≡ answered (state_of tables.old) outcome) }
     ensures err { OnErr result (state_of tables.new ≡ state_of tables.old) }

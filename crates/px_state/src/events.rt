@@ -4,7 +4,9 @@ ghost use Rattle.std.specs.Prelude.{◌≡◌, ◌++◌, ◌∷◌, [], ◌+◌,
 ghost use Rattle.px_header.specs.HeaderRules.{AreSinks};
 ghost use Rattle.px_msg.specs.declared.message.Msg.{Msg as Message};
 ghost use Rattle.px_outcome.specs.declared.change.Change.TheVariants.{Arrives};
-ghost use Rattle.px_state.specs.Answered.{answer_effects};
+ghost use Rattle.px_subscribe.specs.Moments.{AreShown};
+ghost use Rattle.px_subscribe.specs.Scene.{scene_after, scene_arrived};
+ghost use Rattle.px_state.specs.Answered.{answered, answer_effects};
 ghost use Rattle.px_state.specs.Change.{committed};
 ghost use Rattle.px_state.specs.Change.{joined};
 ghost use Rattle.px_state.specs.Events.{scene_of, step_events};
@@ -42,7 +44,9 @@ fn add_events<P>(
     tables: &Tables<P>,
     changes: &[CoreChange<P>],
 ) -> Mem<()>
-    requires { AreSinks [] tables.now.sinks }
+    requires sinks { AreSinks [] tables.now.sinks }
+    requires before { AreShown tables.now.inputs.items }
+    requires after { AreShown (committed (state_of tables.now) changes.now).inputs }
     ensures { OnOk result (effects.new ≡ effects.old ++ step_events (state_of tables.now) (committed (state_of tables.now) changes.now)) }
 {
     if are_quiet(changes) {
@@ -64,7 +68,9 @@ pub(crate) fn answer_effects<P>(
     tables: &Tables<P>,
     outcome: &StepOutcome<Msg<P>, Group>,
 ) -> Mem<Effects>
-    requires { AreSinks [] tables.now.sinks }
+    requires sinks { AreSinks [] tables.now.sinks }
+    requires before { AreShown tables.now.inputs.items }
+    requires after { AreShown (answered (state_of tables.now) outcome.now).inputs }
     ensures { IfOk result (λ effects. effects ≡ answer_effects asker (state_of tables.now) outcome.now) }
 {
     let mut effects = outcome_effects(alloc, asker, outcome)?;
@@ -80,7 +86,9 @@ pub(crate) fn add_arrival_events<P>(
     input: InputId,
     later: &[CoreChange<P>],
 ) -> Mem<()>
-    requires { AreSinks [] tables.now.sinks }
+    requires sinks { AreSinks [] tables.now.sinks }
+    requires before { AreShown tables.now.inputs.items }
+    requires after { AreShown (scene_after (scene_arrived input (scene_of (state_of tables.now))) later.now).inputs }
     ensures { OnOk result ((m : Message P) → effects.new ≡ effects.old ++ step_events (state_of tables.now) (committed (state_of tables.now) (Arrives input m ∷ later.now))) }
 {
     if nobody_hears(tables.names.clients(), later) {
@@ -96,6 +104,7 @@ pub(crate) fn add_arrival_events<P>(
 /// The subscription events of a client that connects.
 pub fn joined_events<P>(alloc: Global, tables: &Tables<P>, conn: ConnId) -> Mem<Effects>
     requires sinks { AreSinks [] tables.now.sinks }
+    requires shown { AreShown tables.now.inputs.items }
     requires room { tables.now.clients_made < 4294967295 }
     ensures { IfOk result (λ effects. effects ≡ step_events (state_of tables.now) (joined conn (state_of tables.now))) }
 {

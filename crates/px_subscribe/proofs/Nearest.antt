@@ -1,5 +1,5 @@
 -- The events between two moments, reckoned by going from each object that is told at one of them to the next.
-use Rattle.std.proofs.Common.{◌≡◌, ℕ, zero, suc, ◌+◌, ◌-◌, ◌<◌, ◌≤◌, Bool, true, false, cond, List, [], ◌∷◌, ◌++◌, map, Option, None, Some, refl, ap, sym, subst, ◌∙◌, arith}
+use Rattle.std.proofs.Common.{◌≡◌, ℕ, zero, suc, ◌+◌, ◌-◌, ◌<◌, ◌≤◌, ◌^◌, Bool, true, false, cond, List, [], ◌∷◌, ◌++◌, map, Option, None, Some, refl, ap, sym, subst, ◌∙◌, arith}
 use Rattle.std.specs.Prelude.{◌&&◌, nat_eq, nat_le, nat_lt, flat_map, option_map, option_to_list}
 use Rattle.std.specs.List.{range_with_len, find}
 use Rattle.std.proofs.lemmas.List.{append-nil}
@@ -14,7 +14,7 @@ use Rattle.px_subscribe.specs.declared.event.Facility.TheVariants.{Sink, Input, 
 use Rattle.px_subscribe.specs.declared.event.Event.{Event}
 use Rattle.px_subscribe.specs.declared.info_bytes.InfoBytes.{InfoBytes}
 use Rattle.px_subscribe.specs.Became.{became, event, events_at}
-use Rattle.px_subscribe.specs.InfoBytes.{sink_at, input_at, client_at, sinks_events, inputs_events, clients_events, sink_info_bytes, input_info_bytes, client_info_bytes, is_at, bytes_at, events_in_bytes, nearer, next_in}
+use Rattle.px_subscribe.specs.InfoBytes.{sinks_events, inputs_events, clients_events, sink_info_bytes, input_info_bytes, client_info_bytes, is_at, bytes_at, events_in_bytes, nearer, next_in}
 
 -- ---- ranges
 
@@ -104,6 +104,17 @@ next_below : (infos : List InfoBytes) (from end : ℕ) → next_in infos from en
 next_below [] from end = omega arith
 next_below (t ∷ infos) from end = omega (arith, next_below infos from (nearer from t end), near_below from t.index end)
 
+-- the nearer of two bounds has 32 bits where it lies below the end
+nearer_fits : (here middle end : ℕ) → here ≤ middle → (middle < end → middle < 2 ^ 32) → (here < middle → here < 2 ^ 32) → here < end → here < 2 ^ 32
+nearer_fits here middle end l m h u = by (nat_lt here middle) refl
+  where
+    by : (b : Bool) → nat_lt here middle ≡ b → here < 2 ^ 32
+    by true t = h (grind (arith, nat_tests))
+    by false t =
+        let s : middle ≤ here = grind (arith, nat_tests) in
+        let fits : middle < 2 ^ 32 = m (omega (arith, s, u)) in
+        omega (arith, l, fits)
+
 next_above : (infos : List InfoBytes) (from end : ℕ) → from ≤ end → from ≤ next_in infos from end
 next_above [] from end l = l
 next_above (t ∷ infos) from end l = next_above infos from (nearer from t end) (near_above from t.index end l)
@@ -151,6 +162,9 @@ module _ (f : Facility) (before after : List InfoBytes) (from given middle here 
   next_further =
       subst (λ n. events_in_bytes f before after (n + 1) ≡ events_in_bytes f before after from ++ events_at f (λ bytes. bytes) (bytes_at before) (bytes_at after) n) (sym is_next)
       (events_further f before after from given l)
+
+  pub next_fits : (middle < given → middle < 2 ^ 32) → (here < middle → here < 2 ^ 32) → here < given → here < 2 ^ 32
+  next_fits m h u = nearer_fits here middle given (subst (λ n. n ≤ middle) (sym q) (next_below after from middle)) m h u
 
   pub next_all : given ≤ here → events_in_bytes f before after given ≡ events_in_bytes f before after from
   next_all e = events_all f before after from given l (subst (λ n. given ≤ n) is_next e)

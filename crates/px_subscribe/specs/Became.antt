@@ -1,5 +1,5 @@
 -- The events between two moments: the kind of each object's event, by its info before and after.
-use Rattle.std.specs.Prelude.{◌≡◌, ℕ, ◌<◌, Bool, cond, ◌&&◌, nat_eq, bytes_eq, List, [], ◌++◌, filter, flat_map, Option, None, Some, option_map, option_to_list}
+use Rattle.std.specs.Prelude.{◌≡◌, ℕ, ◌<◌, Bool, cond, ◌&&◌, nat_eq, bytes_eq, List, ◌++◌, filter, flat_map, Option, None, Some, option_map, option_to_list}
 use Rattle.std.specs.List.{range_with_len}
 use Rattle.px_reply.specs.Front.{reply_to}
 use Rattle.px_reply.specs.Info.{server_reply, with_sink, with_input, with_client}

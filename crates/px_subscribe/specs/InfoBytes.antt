@@ -1,5 +1,5 @@
 -- Objects with the bytes of their infos, and the events between two moments of which all infos are given.
-use Rattle.std.specs.Prelude.{◌≡◌, ◌≤◌, ℕ, Bool, cond, ◌&&◌, nat_eq, nat_le, nat_lt, List, [], ◌∷◌, map, Option, None, Some, IsTrue, IfSome, All, option_map}
+use Rattle.std.specs.Prelude.{◌≤◌, ℕ, Bool, cond, ◌&&◌, nat_eq, nat_le, nat_lt, List, [], ◌∷◌, Option, IsTrue, IfSome, All, option_map}
 use Rattle.std.specs.List.{find}
 use Rattle.px_tag.specs.Item.{IsText, is_text}
 use Rattle.px_reply.specs.declared.info.SinkInfo.{SinkInfo}
@@ -13,7 +13,7 @@ use Rattle.px_subscribe.specs.declared.event.Facility.TheVariants.{Sink, Input, 
 use Rattle.px_subscribe.specs.declared.event.Event.{Event}
 use Rattle.px_subscribe.specs.declared.between.Counts.{Counts}
 use Rattle.px_subscribe.specs.declared.info_bytes.InfoBytes.{InfoBytes}
-use Rattle.px_subscribe.specs.Became.{events_at, events_of}
+use Rattle.px_subscribe.specs.Became.{events_of}
 use Rattle.px_subscribe.specs.Infos.{Infos, Given}
 
 -- ---- infos by their index, the first of each

@@ -1,11 +1,12 @@
 -- The infos of a scene, the connections that subscribe in it, and the subscription events between one scene and a later one (PulseAudio:
 -- `pa_subscription_post` of pulsecore/core-subscribe.c, and `subscription_cb` of pulsecore/protocol-native.c; that events follow the infos, and so
 -- come once a step and only where an info differs, is own).
-use Rattle.std.specs.Prelude.{ℕ, cond, List, [], ◌∷◌, map, length, flat_map, option_map}
+use Rattle.std.specs.Prelude.{ℕ, ◌≤◌, cond, List, [], ◌∷◌, map, length, flat_map, option_map, All}
 use Rattle.px_names.specs.declared.client.Client.{Client}
 use Rattle.px_names.specs.Clients.{client_on, mask_of}
 use Rattle.px_header.specs.declared.header.SinkSpec.{SinkSpec}
 use Rattle.px_outcome.specs.declared.input.Connection.{Connection}
+use Rattle.px_outcome.specs.declared.input.Input.{Input}
 use Rattle.px_outcome.specs.declared.sending.Sending.{Sending}
 use Rattle.px_ctl_info.specs.Clients.{info_of}
 use Rattle.px_ctl_info.specs.Infos.{sink_info_list, input_info_list}
@@ -17,6 +18,10 @@ use Rattle.px_subscribe.specs.Infos.{Given}
 use Rattle.px_subscribe.specs.Became.{events_between}
 use Rattle.px_subscribe.specs.InfoBytes.{InfoLists, infos_in}
 use Rattle.px_subscribe.specs.Scene.{Scene}
+
+-- inputs that an info can show: each has at most 32 channels
+abbrev pub AreShown : List Input → Type 0
+AreShown inputs = All (λ x. (Input.spec x).channels ≤ 32) inputs
 
 -- the infos that the commands for lists reply with, and that for the server
 abbrev pub info_lists_of : List SinkSpec → Scene → InfoLists

@@ -40,7 +40,7 @@ impl Model for Moment {
 /// The number of indices that were ever given, from 0 on.
 #[derive(Clone, Copy, Debug, Drop)]
 pub struct Counts {
-    pub sinks: u32,
+    pub sinks: usize,
     pub inputs: u32,
     pub clients: u32,
 }
@@ -93,7 +93,7 @@ fn add_all(
     facility: Facility,
     before: &[InfoBytes],
     after: &[InfoBytes],
-    given: u32,
+    given: usize,
 ) -> Mem<()>
     ensures { OnOk result (events.new.items ≡ events.old.items ++ events_in_bytes facility before.now after.now given) }
 {
@@ -103,7 +103,7 @@ fn add_all(
         if next >= given {
             return Ok(());
         }
-        add_at(events, facility, before, after, next)?;
+        add_at(events, facility, before, after, next as u32)?;
         from = next + 1;
     }
     Ok(())
@@ -163,7 +163,7 @@ fn add_sinks(
     events: &mut Vec<Event>,
     before: &[SinkInfo],
     after: &[SinkInfo],
-    given: u32,
+    given: usize,
 ) -> Mem<()>
     requires before { All IsWritableSink before.now }
     requires after { All IsWritableSink after.now }
@@ -190,7 +190,7 @@ fn add_inputs(
 {
     let before = inputs_in_bytes(alloc, before)?;
     let after = inputs_in_bytes(alloc, after)?;
-    add_all(events, Facility::Input, &before, &after, given)?;
+    add_all(events, Facility::Input, &before, &after, given as usize)?;
     Ok(())
 }
 
@@ -209,7 +209,7 @@ fn add_clients(
 {
     let before = clients_in_bytes(alloc, before)?;
     let after = clients_in_bytes(alloc, after)?;
-    add_all(events, Facility::Client, &before, &after, given)?;
+    add_all(events, Facility::Client, &before, &after, given as usize)?;
     Ok(())
 }
 

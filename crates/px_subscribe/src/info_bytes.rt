@@ -1,6 +1,6 @@
 //! Objects with the bytes of their infos.
 
-ghost use Rattle.std.specs.Prelude.{◌≡◌, ◌++◌, ◌∷◌, ◌≤◌, List, All, IsTrue, IfOk, OnOk, map};
+ghost use Rattle.std.specs.Prelude.{◌≡◌, ◌<◌, ◌^◌, ◌++◌, ◌∷◌, ◌≤◌, List, All, IsTrue, IfOk, OnOk, map};
 ghost use Rattle.std.specs.Option.{option_map};
 ghost use Rattle.px_reply.specs.declared.info.SinkInfo.{SinkInfo};
 ghost use Rattle.px_reply.specs.declared.info.InputInfo.{InputInfo};
@@ -136,13 +136,15 @@ pub(crate) fn bytes_at(infos: &[InfoBytes], index: u32) -> Option<&[u8]>
 }
 
 /// The least index from `from` on among these, or `end` where none lies below it. Takes no memory.
-pub(crate) fn next_in(infos: &[InfoBytes], from: u32, end: u32) -> u32
-    ensures { result ≡ next_in infos.now from end }
+pub(crate) fn next_in(infos: &[InfoBytes], from: usize, end: usize) -> usize
+    ensures value { result ≡ next_in infos.now from end }
+    ensures index { result < end → result < 2 ^ 32 }
 {
     let mut next = end;
     for t in infos {
-        if from <= t.index && t.index < next {
-            next = t.index;
+        let index = t.index as usize;
+        if from <= index && index < next {
+            next = index;
         }
     }
     next

@@ -1,16 +1,15 @@
 //! The infos of a scene, and the subscription events between one scene and a later one.
 
-ghost use Rattle.std.specs.Prelude.{◌≡◌, ◌≤◌, ◌++◌, ◌∷◌, [], List, All, true, IfOk, IfSome, OnOk, option_map, length};
+ghost use Rattle.std.specs.Prelude.{◌≡◌, ◌++◌, ◌∷◌, [], List, IfOk, IfSome, OnOk, option_map};
 ghost use Rattle.px_names.specs.declared.client.Client.{Client};
 ghost use Rattle.px_outcome.specs.declared.input.Connection.{Connection};
-ghost use Rattle.px_outcome.specs.declared.input.Input.{Input};
 ghost use Rattle.px_header.specs.HeaderRules.{AreSinks};
 ghost use Rattle.px_names.specs.Clients.{client_on, mask_of};
 ghost use Rattle.px_ctl_info.specs.Sinks.{server_of};
 ghost use Rattle.px_sinks.specs.Sinks.{target_at};
 ghost use Rattle.px_subscribe.specs.InfoBytes.{AreWritable, IsWritableServer};
 ghost use Rattle.px_subscribe.specs.Scene.{scene_after, scene_arrived, scene_joined};
-ghost use Rattle.px_subscribe.specs.Moments.{info_lists_of, subscriber_of, subscribers_in, subscribers_of, notified_since, notified_between};
+ghost use Rattle.px_subscribe.specs.Moments.{AreShown, info_lists_of, subscriber_of, subscribers_in, subscribers_of, notified_since, notified_between};
 
 use crate::announce::{Subscriber, announce_all};
 use crate::between::{Counts, Moment, events_between};
@@ -20,29 +19,11 @@ use px_flat::Group;
 use px_header::SinkSpec;
 use px_msg::Msg;
 use px_names::Client;
-use px_outcome::{Change, Connection, Input, Sending};
+use px_outcome::{Change, Connection, Sending};
 use px_reply::ServerInfo;
 use px_sinks::{target_at, targets_of};
-use px_types::limits::MAX_CHANNELS;
-use px_types::{ConnId, InputId, Mem, NoMemory, SinkId};
+use px_types::{ConnId, InputId, Mem, SinkId};
 use std::alloc::Global;
-
-// The number of sinks, where it fits 32 bits.
-fn count_of(sinks: &[SinkSpec]) -> Mem<u32>
-    ensures { IfOk result (λ count. count ≡ length sinks.now) }
-{
-    match u32::try_from(sinks.len()) {
-        Ok(count) => Ok(count),
-        Err(_) => Err(NoMemory),
-    }
-}
-
-// Whether each input has at most 32 channels.
-fn are_few(inputs: &[Input]) -> bool
-    ensures { result ≡ true → All (λ x. (Input.spec x).channels ≤ 32) inputs.now }
-{
-    inputs.iter().all(|x| x.spec.channels <= MAX_CHANNELS)
-}
 
 // The info of the server.
 fn server_info(alloc: Global, sinks: &[SinkSpec], fallback: SinkId) -> Mem<Option<ServerInfo>>
@@ -102,16 +83,13 @@ fn subscribers_in(
 }
 
 impl Scene {
-    /// The infos that the commands for lists and for the server reply with, with these sinks. `Err` for want of memory, and
-    /// where an input has more than 32 channels: no sink plays it, and it has no info.
+    /// The infos that the commands for lists and for the server reply with, with these sinks. `Err` for want of memory alone.
     pub fn moment(&self, alloc: Global, sinks: &[SinkSpec]) -> Mem<Moment>
-        requires { AreSinks [] sinks.now }
+        requires sinks { AreSinks [] sinks.now }
+        requires shown { AreShown self.now.inputs }
         ensures value { IfOk result (λ notified. notified ≡ info_lists_of sinks.now self.now) }
         ensures writable { IfOk result AreWritable }
     {
-        if !are_few(&self.inputs) {
-            return Err(NoMemory);
-        }
         let targets = targets_of(alloc, sinks)?;
         Ok(Moment {
             sinks: sink_info_list(alloc, &targets, &self.groups)?,
@@ -138,11 +116,12 @@ impl Scene {
     ) -> Mem<Vec<Sending>>
         requires sinks { AreSinks [] sinks.now }
         requires before { AreWritable before.now }
+        requires shown { AreShown self.now.inputs }
         ensures { IfOk result (λ notified. notified.items ≡ notified_since sinks.now clients_made before.now self.now) }
     {
         let after = self.moment(alloc, sinks)?;
         let given = Counts {
-            sinks: count_of(sinks)?,
+            sinks: sinks.len(),
             inputs: self.inputs_made,
             clients: clients_made,
         };
@@ -162,6 +141,7 @@ impl Scene {
     ) -> Mem<Vec<Sending>>
         requires sinks { AreSinks [] sinks.now }
         requires before { AreWritable before.now }
+        requires after { AreShown (scene_after self.old changes.now).inputs }
         ensures { IfOk result (λ notified. notified.items ≡ notified_since sinks.now clients_made before.now (scene_after self.old changes.now)) }
     {
         self.make(alloc, changes)?;
@@ -176,7 +156,9 @@ impl Scene {
         clients_made: u32,
         changes: &[Change<Msg<P>, Group>],
     ) -> Mem<Vec<Sending>>
-        requires { AreSinks [] sinks.now }
+        requires sinks { AreSinks [] sinks.now }
+        requires before { AreShown self.old.inputs }
+        requires after { AreShown (scene_after self.old changes.now).inputs }
         ensures { IfOk result (λ notified. notified.items ≡ notified_between sinks.now clients_made self.old (scene_after self.old changes.now)) }
     {
         let before = self.moment(alloc, sinks)?;
@@ -192,7 +174,9 @@ impl Scene {
         input: InputId,
         later: &[Change<Msg<P>, Group>],
     ) -> Mem<Vec<Sending>>
-        requires { AreSinks [] sinks.now }
+        requires sinks { AreSinks [] sinks.now }
+        requires before { AreShown self.old.inputs }
+        requires after { AreShown (scene_after (scene_arrived input self.old) later.now).inputs }
         ensures { IfOk result (λ notified. notified.items ≡ notified_between sinks.now clients_made self.old (scene_after (scene_arrived input self.old) later.now)) }
     {
         let before = self.moment(alloc, sinks)?;
@@ -212,6 +196,7 @@ impl Scene {
     ) -> Mem<Vec<Sending>>
         requires sinks { AreSinks [] sinks.now }
         requires before { AreWritable before.now }
+        requires shown { AreShown self.old.inputs }
         ensures { IfOk result (λ notified. notified.items ≡ notified_since sinks.now clients_made before.now (scene_joined conn client self.old)) }
     {
         self.join(alloc, conn, client)?;
@@ -226,7 +211,9 @@ impl Scene {
         clients_made: u32,
         changes: &[Change<Msg<P>, Group>],
     ) -> Mem<Vec<Sending>>
-        requires { AreSinks [] sinks.now }
+        requires sinks { AreSinks [] sinks.now }
+        requires before { AreShown self.inputs }
+        requires after { AreShown (scene_after self changes.now).inputs }
         ensures { IfOk result (λ notified. notified.items ≡ notified_between sinks.now clients_made self (scene_after self changes.now)) }
     {
         self.change_and_notify(alloc, sinks, clients_made, changes)
@@ -241,7 +228,9 @@ impl Scene {
         input: InputId,
         later: &[Change<Msg<P>, Group>],
     ) -> Mem<Vec<Sending>>
-        requires { AreSinks [] sinks.now }
+        requires sinks { AreSinks [] sinks.now }
+        requires before { AreShown self.inputs }
+        requires after { AreShown (scene_after (scene_arrived input self) later.now).inputs }
         ensures { IfOk result (λ notified. notified.items ≡ notified_between sinks.now clients_made self (scene_after (scene_arrived input self) later.now)) }
     {
         self.arrive_and_notify(alloc, sinks, clients_made, input, later)
@@ -256,7 +245,8 @@ impl Scene {
         conn: ConnId,
         client: u32,
     ) -> Mem<Vec<Sending>>
-        requires { AreSinks [] sinks.now }
+        requires sinks { AreSinks [] sinks.now }
+        requires shown { AreShown self.inputs }
         ensures { IfOk result (λ notified. notified.items ≡ notified_between sinks.now clients_made self (scene_joined conn client self)) }
     {
         let before = self.moment(alloc, sinks)?;

@@ -8,7 +8,7 @@ use Rattle.px_core.proofs.notice.detach.Goals as goal
 
 pub leave_with-requires-clause-member : goal.leave_with-requires-clause-member
 leave_with-requires-clause-member g c =
-    member_there c.args.tables.now.sinks c.args.tables.now.inputs.items c.args.tables.now.groups.items c.requires.grouped c.args.sink c.args.input (Some c.in-Some.x)
+    member_there c.args.tables.now.sinks c.args.tables.now.inputs.items c.args.tables.now.groups.items c.requires.consistent.grouped c.args.sink c.args.input (Some c.in-Some.x)
     (sym c.in-Some.is ∙ c.input_on.ensures ∙ ap (λ xs. input_on xs c.args.sink c.args.input) c.as_slice.ensures)
     (slice_get c.args.tables.now.groups.items c.args.sink.0) refl
 

@@ -1,4 +1,4 @@
-use Rattle.std.proofs.Common.{◌≡◌, ◌++◌, ◌≤◌, ℕ, ◌-◌}
+use Rattle.std.proofs.Common.{◌≡◌, ◌++◌, ◌≤◌, ◌-◌}
 use Rattle.px_subscribe.specs.InfoBytes.{events_in_bytes}
 use Rattle.px_subscribe.proofs.between.add_all.Given as goal
 
