@@ -22,6 +22,7 @@ pub mod MisfitLaws
 pub mod WayLaws
 pub mod ActingLaws
 pub mod MissingLaws
+pub mod AnsweringLaws
 pub mod JoinLaws
 pub mod StreamLaws
 pub mod StepLaws

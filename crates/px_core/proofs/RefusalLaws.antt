@@ -173,7 +173,7 @@ module _ (conn : ConnId) (tag code : ℕ) where
 
 -- ---- a client that connects with a number in use
 
-some_found : {A : Type 0} (q : A → Bool) (xs : List A) (y : A) → Contains xs y → q y ≡ true → (z : A) × (find q xs ≡ Some z)
+pub some_found : {A : Type 0} (q : A → Bool) (xs : List A) (y : A) → Contains xs y → q y ≡ true → (z : A) × (find q xs ≡ Some z)
 some_found {A} q xs y held t = by (find q xs) refl
   where
     none_pass : (zs : List A) → find q zs ≡ None → AllByRecursion (λ z. q z ≡ false) zs

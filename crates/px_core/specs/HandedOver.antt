@@ -30,10 +30,11 @@ pub record IsGrouped {P : Type 0} (state : State P) (x : Input) : Type 0 where
 abbrev pub others_than : InputId → List Input → List Input
 others_than index inputs = filter (λ y. not (has_index index y)) inputs
 
--- all inputs, of which the one with an index is settled on the sink `to`, and its stream is still to come there
+-- the input, settled on the sink `to`, where its stream is still to come
 abbrev pub settled_at : SinkId → Input → Input
 settled_at to x = record x { sink = to; standing = Settled; way = Coming }
 
+-- all inputs, of which the one with an index is settled there
 abbrev pub with_settled : SinkId → InputId → List Input → List Input
 with_settled to index inputs = map (λ y. cond (has_index index y) (settled_at to y) y) inputs
 

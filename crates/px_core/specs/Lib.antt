@@ -8,6 +8,7 @@ pub mod Grouped
 pub mod Consistency
 pub mod HandedOver
 pub mod Missing
+pub mod Answering
 pub mod Places
 pub mod Indexed
 pub mod Parcels

@@ -23,7 +23,9 @@ ghost use Rattle.px_state.specs.Change.{marked, with_connection};
 ghost use Rattle.px_state.specs.State.{State, new_state};
 ghost use Rattle.px_core.specs.Connecting.{going_on};
 ghost use Rattle.px_core.specs.Notice.{IsNews};
-ghost use Rattle.px_core.specs.Misfit.{IsAbout, Misfits};
+ghost use Rattle.px_core.specs.Misfit.{IsAbout, Answers, Misfits};
+ghost use Rattle.px_core.specs.Answering.{IsAnswered};
+ghost use Rattle.px_outcome.specs.declared.waiting.Waiting.{Waiting};
 ghost use Rattle.px_core.specs.HandedOver.{IsHandedOver, IsGrouped, others_than, with_settled, IsBrought};
 ghost use Rattle.px_core.specs.Missing.{sink_named_in, input_named_in};
 ghost use Rattle.px_core.specs.Command.{handle};
@@ -192,7 +194,8 @@ pub fn misfits_change_nothing<P>()
 
 /// A stream that a sink hands over, where the sink was handed the message to detach it and the parcel fits: an input that has
 /// ended goes, and no other; one that moves is settled on its new sink, to which its parcel is posted. Every input is in the
-/// group of the sink that it is on. It does nothing: its contract is the law. Source: own.
+/// group of the sink that it is on. A notice that answers a request that waits: that one waits no longer, and all others do. It
+/// does nothing: its contract is the law. Source: own.
 pub fn what_fits_acts<P>()
     ensures grouped { (spec_of : P → SampleSpec) (state : State P) (x : Input) → IsConsistent spec_of state
         → Contains state.inputs x → IsGrouped state x }
@@ -205,6 +208,9 @@ pub fn what_fits_acts<P>()
     ensures brought { (spec_of : P → SampleSpec) (state : State P) (sink to : SinkId) (x : Input) (parcel : P)
         → IsConsistent spec_of state → IsHandedOver spec_of state sink x parcel → x.standing ≡ Moving to
         → IsBrought to x.index parcel state (stepped spec_of state (notice sink (Detached x.index parcel))) }
+    ensures answered { (spec_of : P → SampleSpec) (state : State P) (sink : SinkId) (n : Notice P) (x : Input) (w : Waiting)
+        → IsConsistent spec_of state → IsAbout state sink n x → Contains state.waiting w → Answers n w
+        → IsAnswered state.waiting (stepped spec_of state (notice sink n)).waiting w }
 {}
 
 /// A command that names a sink, or a live input, that is there isn't answered NOENTITY for want of a group of volumes, or of a
