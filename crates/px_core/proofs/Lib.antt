@@ -41,3 +41,4 @@ pub mod HearingLaws
 pub mod EventLaws
 pub mod HeardLaws
 pub mod Finding
+pub mod ShownLaws
