@@ -1,4 +1,5 @@
 mod gates;
+mod histories;
 mod hosts;
 mod statuses;
 mod tape;

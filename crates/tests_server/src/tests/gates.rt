@@ -1,66 +1,73 @@
 //! Workers side by side.
-ghost use Rattle.std.specs.Prelude.{IfOk};
 ghost use Rattle.px_header.specs.HeaderRules.{IsHeader};
 
-use super::hosts::{Machine, header, host, nothing_sent, one_client};
-use px_app::header_in;
+use super::hosts::{Machine, header, header_read, host, nothing_sent, one_client};
 use px_header::Header;
 use px_mem_host::MemHost;
 use px_server::{Gate, serve};
-use px_types::{ConnId, Mem, NoMemory, SinkId, Status};
-use std::alloc::Global;
+use px_types::{ConnId, Mem, SinkId, Status};
 use std::rt::Clock;
 use std::sync::Arc;
 use std::sync::atomic::{AtomicBool, Ordering};
 use std::thread::sleep;
 use std::time::Duration;
 
-// Holds the first turn of sink 0 until another worker has handled a packet, for at most a million looks.
+// A rendezvous: the first turn of sink 0 waits until a packet was answered, and the worker of the first packet waits until a turn of sink 0 has
+// begun. On one thread whichever comes first waits for itself.
 #[derive(Drop)]
 struct Meeting<R> {
     rt: R,
     begun: AtomicBool,
     answered: AtomicBool,
-    met: AtomicBool,
+    turn_met: AtomicBool,
+    packet_met: AtomicBool,
 }
 
 impl<R: Clock> Meeting<R> {
+    fn new(rt: R) -> Meeting<R> {
+        Meeting {
+            rt,
+            begun: AtomicBool::new(false),
+            answered: AtomicBool::new(false),
+            turn_met: AtomicBool::new(false),
+            packet_met: AtomicBool::new(false),
+        }
+    }
+
     fn pause(&self, milliseconds: u64) {
         sleep(&self.rt, Duration::from_millis(milliseconds));
     }
 
-    fn await_packet(&self) {
+    // Looks at `sign` up to a million times, a millisecond apart, until it is there, and notes in `met` that it was.
+    fn wait_for(&self, sign: &AtomicBool, met: &AtomicBool) {
         for _ in 0..1_000_000u32 {
-            if self.answered.load(Ordering::SeqCst) {
-                self.met.store(true, Ordering::SeqCst);
+            if sign.load(Ordering::SeqCst) {
+                met.store(true, Ordering::SeqCst);
                 return;
             }
             self.pause(1);
         }
+    }
+
+    // Whether both waits ended by the other's sign.
+    fn met(&self) -> bool {
+        self.turn_met.load(Ordering::SeqCst) && self.packet_met.load(Ordering::SeqCst)
     }
 }
 
 impl<R: Clock> Gate for Meeting<R> {
     fn before_turn(&self, sink: SinkId) {
         if sink == SinkId(0) && !self.begun.swap(true, Ordering::SeqCst) {
-            self.await_packet();
+            self.wait_for(&self.answered, &self.turn_met);
         } else {
             self.pause(5);
         }
     }
 
     fn after_packet(&self, _conn: ConnId) {
-        self.answered.store(true, Ordering::SeqCst);
-    }
-}
-
-// The header of the host's file.
-fn header_read(alloc: Global) -> Mem<Header>
-    ensures { IfOk result IsHeader }
-{
-    match header_in(alloc, header(alloc)?) {
-        Ok(header) => Ok(header),
-        Err(_) => Err(NoMemory),
+        if !self.answered.swap(true, Ordering::SeqCst) {
+            self.wait_for(&self.begun, &self.packet_met);
+        }
     }
 }
 
@@ -92,15 +99,9 @@ fn ended<R: Machine>(rt: &R, read: &Header, gate: Arc<Meeting<R>>) -> Mem<Status
 
 #[test]
 fn a_sink_and_a_client_are_served_side_by_side(rt: HostRuntime) -> Mem<()> {
-    let meeting = Meeting {
-        rt,
-        begun: AtomicBool::new(false),
-        answered: AtomicBool::new(false),
-        met: AtomicBool::new(false),
-    };
-    let gate = Arc::new(rt.alloc(), meeting)?;
+    let gate = Arc::new(rt.alloc(), Meeting::new(rt))?;
     let read = header_read(rt.alloc())?;
     let status = ended(&rt, &read, Arc::try_clone(&gate)?);
-    assert!(rt; status == Ok(Status::Ok) && gate.met.load(Ordering::SeqCst));
+    assert!(rt; status == Ok(Status::Ok) && gate.met());
     Ok(())
 }

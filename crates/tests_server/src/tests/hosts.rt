@@ -1,10 +1,12 @@
 //! Hosts in memory with one client.
 ghost use Rattle.std.specs.Prelude.{◌≤◌, length, IfOk};
+ghost use Rattle.px_header.specs.HeaderRules.{IsHeader};
 
-use px_app::run;
+use px_app::{header_in, run};
 use px_ends::{Calls, MemSink, MemSource};
+use px_header::Header;
 use px_mem_host::{LinkPlan, LinkPlans, MemHost};
-use px_types::{Mem, Status, Text};
+use px_types::{Mem, NoMemory, Status, Text};
 use std::alloc::Global;
 use std::rt::Clock;
 use std::sync::{Arc, Mutex, Wait};
@@ -26,6 +28,16 @@ pub fn header(alloc: Global) -> Mem<Text> {
     bytes.extend_from_slice(&[0; 256])?;
     bytes.extend_from_slice(b"\x01\x03out\x03\x01\0\0\xbb\x80\0\0\0\0\x0a\0\0\0\x64")?;
     Ok(Text::from_vec(bytes))
+}
+
+/// The header that these bytes are.
+pub fn header_read(alloc: Global) -> Mem<Header>
+    ensures { IfOk result IsHeader }
+{
+    match header_in(alloc, header(alloc)?) {
+        Ok(header) => Ok(header),
+        Err(_) => Err(NoMemory),
+    }
 }
 
 /// The AUTH of a client of version 35 with that cookie, in its frame: 296 bytes.
