@@ -1,6 +1,4 @@
 //! A client at a real socket that sends all its requests before it reads.
-ghost use Rattle.std.specs.Prelude.{◌≤◌, vec_len};
-
 use px_app::run;
 use px_ends::{Calls, MemSink, MemSource};
 use px_host::SystemHost;
@@ -152,30 +150,44 @@ struct Replies<R> {
     length: usize,
 }
 
-impl<R: Clock> Replies<R> {
-    // Reads the bytes of a packet of `length` bytes, a long one with a pause in it, in which the server sends a part of the next.
-    fn read_body(&mut self) -> io::Result<()>
-        requires { self.old.length ≤ vec_len self.old.body }
-    {
-        let mut at = 0;
-        if self.length > LONG {
-            self.wire.read_exact(&mut self.body[..LONG])?;
-            sleep(&self.rt, Duration::from_millis(5));
-            at = LONG;
-        }
-        self.wire.read_exact(&mut self.body[at..self.length])
+// Fills `body`, a long one with a pause in it, in which the server sends a part of the next packet.
+fn fill<R: Clock>(rt: &R, wire: &mut UnixStream, body: &mut [u8]) -> io::Result<()> {
+    if body.len() <= LONG {
+        return wire.read_exact(body);
     }
+    let (front, rest) = body.split_at_mut(LONG);
+    wire.read_exact(front)?;
+    sleep(rt, Duration::from_millis(5));
+    wire.read_exact(rest)
+}
 
+// Fills the first `length` bytes of `body`, which must have as many.
+fn fill_front<R: Clock>(
+    rt: &R,
+    wire: &mut UnixStream,
+    body: &mut [u8],
+    length: usize,
+) -> io::Result<()> {
+    if length > body.len() {
+        return Err(io::Error::from(ErrorKind::InvalidData));
+    }
+    let (front, _) = body.split_at_mut(length);
+    fill(rt, wire, front)
+}
+
+impl<R: Clock> Replies<R> {
     // Reads the next packet.
     fn read(&mut self) -> io::Result<()> {
         let mut descriptor = [0u8; 20];
         self.wire.read_exact(&mut descriptor)?;
         let [first, second, third, fourth, ..] = descriptor;
         self.length = u32::from_be_bytes([first, second, third, fourth]) as usize;
-        if self.length > self.body.len() {
-            return Err(io::Error::from(ErrorKind::InvalidData));
-        }
-        self.read_body()
+        fill_front(
+            &self.rt,
+            &mut self.wire,
+            self.body.as_mut_slice(),
+            self.length,
+        )
     }
 
     // What stands in the last packet after its tag, where it is the reply with this one.
