@@ -1,5 +1,4 @@
 mod host;
-mod late;
 mod paced;
 mod system_host;
 mod words;
