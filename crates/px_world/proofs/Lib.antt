@@ -16,3 +16,4 @@ pub mod Doing
 pub mod Sounding
 pub mod Standings
 pub mod Beginning
+pub mod Tracks

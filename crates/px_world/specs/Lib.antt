@@ -10,3 +10,4 @@ pub mod Outcome
 pub mod Consistency
 pub mod Playing
 pub mod Doing
+pub mod Continuity

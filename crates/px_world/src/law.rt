@@ -12,6 +12,8 @@ ghost use Rattle.px_world.specs.Admission.{refusal_of};
 ghost use Rattle.px_world.specs.Event.{world_after};
 ghost use Rattle.px_world.specs.Output.{world_by, records_of, records_by, AreAdmitted, output_of};
 ghost use Rattle.px_world.specs.History.{history_by, played_by_run, begun, sink_at, AreDecided};
+ghost use Rattle.px_model.specs.Track.{track_of};
+ghost use Rattle.px_world.specs.Continuity.{Doing, track_by, stretches_at, history_over};
 ghost use Rattle.px_world.specs.Worked.{small_header, small_events, small_output};
 
 /// In a run of admitted events every frame that a sink plays is what its deciding turn made of it: the mix of the sink's streams after that turn.
@@ -49,6 +51,15 @@ pub fn runs_go_on()
         → records_by w (events ++ e ∷ []) ≡ records_by w events ++ records_of (world_by w events) e }
     ensures admitted { (w : World) (events : List Event) (e : Event) → AreAdmitted w events
         → refusal_of (world_by w events) e ≡ None → AreAdmitted w (events ++ e ∷ []) }
+{}
+
+/// Over a whole run, in which sinks may fail, the track of an input is made of the tracks that it has at each sink: the stretches settled at a sink are
+/// those that the sink's own history settles. Source: own.
+pub fn continuity()
+    ensures whole { (header : Header) (doings : List Doing) (k i : ℕ) (s : SinkSpec)
+        → slice_get header.sinks k ≡ Some s
+        → stretches_at k (track_by (new_world header) doings i)
+        ≡ track_of samples (begun s) (history_over (new_world header) doings k) i }
 {}
 
 /// The definitions give the output of a small session that was worked by hand. Source: own.
