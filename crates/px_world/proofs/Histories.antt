@@ -69,7 +69,7 @@ not_too_many asked there e =
     (λ (enough : nat_lt there asked ≡ false). ltb-false there asked enough)
     (cases_Bool (nat_lt there asked))
 
-frames_there : (m : Mixer) (frames n waiting : ℕ) → turn_refusal (Some m) frames n waiting ≡ None → frames ≤ m.sink.filled - m.sink.consumed
+pub frames_there : (m : Mixer) (frames n waiting : ℕ) → turn_refusal (Some m) frames n waiting ≡ None → frames ≤ m.sink.filled - m.sink.consumed
 frames_there m frames n waiting e =
     let past : or_else (too_many frames (m.sink.filled - m.sink.consumed)) (too_many n waiting) ≡ None =
     (or_else-none (cond (nat_lt LAST_FILLED m.sink.filled) (Some WorldFault.Worn) None) (or_else (too_many frames (m.sink.filled - m.sink.consumed)) (too_many n waiting)) e).1 in

@@ -1,5 +1,5 @@
 -- The stretches that an input settles at a sink, over a run, are those of the sink's own history.
-use Rattle.std.proofs.Common.{◌≡◌, ℕ, Bool, true, false, cond, List, [], ◌∷◌, ◌++◌, map, append-nil, append_assoc, Option, None, Some, refl, ap, sym, ◌∙◌}
+use Rattle.std.proofs.Common.{◌≡◌, ℕ, Bool, true, false, cond, List, [], ◌∷◌, ◌++◌, map, append-nil, append_assoc, Some, refl, ap, sym, ◌∙◌}
 use Rattle.std.specs.Prelude.{nat_eq, filter, option_map}
 use Rattle.std.specs.List.{slice_get}
 use Rattle.std.proofs.lemmas.Bool.{cond-true, cond-false, cond_both, eqb-true}
@@ -8,22 +8,20 @@ use Rattle.px_header.specs.declared.header.Header.{Header}
 use Rattle.px_header.specs.declared.header.SinkSpec.{SinkSpec}
 use Rattle.px_session.specs.declared.event.Event.{Event}
 use Rattle.px_session.specs.declared.event.Event.TheVariants.{Connect, Bytes, Close, Cut, Turn, Collect}
-use Rattle.px_model.specs.Message.{Message}
-use Rattle.px_model.specs.Stream.{Stream}
 use Rattle.px_model.specs.Sink.{Sink, stream_at}
-use Rattle.px_model.specs.Deciding.{Entry, turn, stop, sink_after, replay}
+use Rattle.px_model.specs.Deciding.{Entry, sink_after, replay}
 use Rattle.px_model.specs.Track.{Stretch, stretches_from, track_of, forward_by}
 use Rattle.px_stream.specs.Samples.{samples}
 use Rattle.px_world.specs.World.{World, Mixer, new_mixer, new_world}
-use Rattle.px_world.specs.Event.{messages_taken, is_to_stop}
+use Rattle.px_world.specs.Event.{messages_taken}
 use Rattle.px_world.specs.Doing.{set_to_fail}
 use Rattle.px_world.specs.History.{entry_of, entries_of, begun}
-use Rattle.px_world.specs.Continuity.{Doing, happens, fails, done, entry_in, settled_in, Settled, at_sink, settled_by_event, settled_by, track_by, stretches_of, stretches_at, entries_by, history_over}
+use Rattle.px_world.specs.Continuity.{Doing, happens, fails, done, settled_in, Settled, at_sink, settled_by_event, settled_by, track_by, stretches_of, stretches_at, entries_by, history_over}
 use Rattle.px_world.proofs.Histories.{GoesThrough, goes_through, changed-there, changed-elsewhere}
 
 -- ---- lists
 
-map_join : (xs ys : List Settled) → stretches_of (xs ++ ys) ≡ stretches_of xs ++ stretches_of ys
+pub map_join : (xs ys : List Settled) → stretches_of (xs ++ ys) ≡ stretches_of xs ++ stretches_of ys
 map_join [] ys = refl
 map_join (x ∷ xs) ys = ap (λ l. Settled.stretch x ∷ l) (map_join xs ys)
 

@@ -11,3 +11,4 @@ pub mod Consistency
 pub mod Playing
 pub mod Doing
 pub mod Continuity
+pub mod Whereabouts

@@ -12,8 +12,9 @@ ghost use Rattle.px_world.specs.Admission.{refusal_of};
 ghost use Rattle.px_world.specs.Event.{world_after};
 ghost use Rattle.px_world.specs.Output.{world_by, records_of, records_by, AreAdmitted, output_of};
 ghost use Rattle.px_world.specs.History.{history_by, played_by_run, begun, sink_at, AreDecided};
-ghost use Rattle.px_model.specs.Track.{track_of};
-ghost use Rattle.px_world.specs.Continuity.{Doing, track_by, stretches_at, history_over};
+ghost use Rattle.px_header.specs.HeaderRules.{IsHeader};
+ghost use Rattle.px_model.specs.Track.{IsJoined, Rise, indices_of_all, track_of};
+ghost use Rattle.px_world.specs.Continuity.{Doing, CanAllBeDone, track_by, stretches_of, stretches_at, history_over};
 ghost use Rattle.px_world.specs.Worked.{small_header, small_events, small_output};
 
 /// In a run of admitted events every frame that a sink plays is what its deciding turn made of it: the mix of the sink's streams after that turn.
@@ -53,9 +54,18 @@ pub fn runs_go_on()
         → refusal_of (world_by w events) e ≡ None → AreAdmitted w (events ++ e ∷ []) }
 {}
 
-/// Over a whole run, in which sinks may fail, the track of an input is made of the tracks that it has at each sink: the stretches settled at a sink are
-/// those that the sink's own history settles. Source: own.
+/// Whatever is done to a world, the frames of an input that are settled as played are consecutive, over all sinks that it
+/// moves to: each stretch begins where the one before it ended, or past that where that one ran on without prebuffering. So
+/// its indices rise: none is settled twice. The stretches settled at a sink are those of the sink's own history, so no turn
+/// is left out. A frame that a flush gives up is never settled, and a sink that stopped may not have played what it settled.
+/// Source: own.
 pub fn continuity()
+    ensures joined { (header : Header) (doings : List Doing) (i : ℕ) → IsHeader header
+        → CanAllBeDone (new_world header) doings
+        → IsJoined (stretches_of (track_by (new_world header) doings i)) }
+    ensures rising { (header : Header) (doings : List Doing) (i : ℕ) → IsHeader header
+        → CanAllBeDone (new_world header) doings
+        → Rise (indices_of_all (stretches_of (track_by (new_world header) doings i))) }
     ensures whole { (header : Header) (doings : List Doing) (k i : ℕ) (s : SinkSpec)
         → slice_get header.sinks k ≡ Some s
         → stretches_at k (track_by (new_world header) doings i)
