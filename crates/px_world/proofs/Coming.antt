@@ -52,10 +52,10 @@ pub times-carried : (i : ℕ) (xs ys : List (Msg Stream)) → times i (carried (
 times-carried i xs ys = ap (times i) (carried-join xs ys) ∙ times-join i (carried xs) (carried ys)
 
 one-carried : (i : ℕ) (m : Msg Stream) → times i (carried (m ∷ [])) ≡ times i (carried_by m)
-one-carried i m = times-join i (carried_by m) [] ∙ zero-behind (times i (carried_by m))
+one-carried i m = times-join i (carried_by m) [] ∙ plus-none (times i (carried_by m))
   where
-    zero-behind : (n : ℕ) → n + 0 ≡ n
-    zero-behind n = omega arith
+    plus-none : (n : ℕ) → n + 0 ≡ n
+    plus-none n = omega arith
 
 coming-first : (i : ℕ) (queue : List (Msg Stream)) (posted : List (List (Msg Stream))) → coming i (queue ∷ posted) ≡ times i (carried queue) + coming i posted
 coming-first i queue posted = times-join i (carried queue) (flat_map carried posted)
@@ -306,14 +306,14 @@ module _ (i : ℕ) where
 -- ---- the messages, as the sink reads them
 
 opens-carried : (i : ℕ) (m : Msg Stream) → opens i (message_of (λ p. p) m) ≡ times i (carried_by m)
-opens-carried i (New n) = zero-behind (cond (nat_eq n.input.0 i) 1 0)
+opens-carried i (New n) = plus-none (cond (nat_eq n.input.0 i) 1 0)
   where
-    zero-behind : (n : ℕ) → n ≡ n + 0
-    zero-behind n = omega arith
-opens-carried i (Attach input parcel feed factors) = zero-behind (cond (nat_eq input.0 i) 1 0)
+    plus-none : (n : ℕ) → n ≡ n + 0
+    plus-none n = omega arith
+opens-carried i (Attach input parcel feed factors) = plus-none (cond (nat_eq input.0 i) 1 0)
   where
-    zero-behind : (n : ℕ) → n ≡ n + 0
-    zero-behind n = omega arith
+    plus-none : (n : ℕ) → n ≡ n + 0
+    plus-none n = omega arith
 opens-carried i (Detach input) = refl
 opens-carried i (Write input seek offset frames bytes) = refl
 opens-carried i (Cork input on) = refl

@@ -179,7 +179,7 @@ goes_through w (Collect sink n) k m there = collected w sink n k m there (nat_eq
 -- ---- a run
 
 -- one history after another
-histories_join : (sink : Sink) (earlier later : List Entry) → IsHistory samples sink earlier → IsHistory samples (replay samples sink earlier) later → IsHistory samples sink (earlier ++ later)
+pub histories_join : (sink : Sink) (earlier later : List Entry) → IsHistory samples sink earlier → IsHistory samples (replay samples sink earlier) later → IsHistory samples sink (earlier ++ later)
 histories_join sink [] later h l = l
 histories_join sink (x ∷ earlier) later h l = (h.0, histories_join (sink_after samples sink x) earlier later h.1 l)
 

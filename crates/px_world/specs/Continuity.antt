@@ -3,6 +3,7 @@ use Rattle.std.specs.Prelude.{◌≡◌, ℕ, ◌<◌, cond, nat_eq, List, [], �
 use Rattle.std.specs.List.{slice_get}
 use Rattle.px_session.specs.declared.event.Event.{Event}
 use Rattle.px_session.specs.declared.event.Event.TheVariants.{Connect, Bytes, Close, Cut, Turn, Collect}
+use Rattle.px_model.specs.Frame.{Frame}
 use Rattle.px_model.specs.Message.{Message}
 use Rattle.px_model.specs.Stream.{Stream}
 use Rattle.px_model.specs.Sink.{stream_at}
@@ -12,7 +13,7 @@ use Rattle.px_world.specs.World.{World, Mixer}
 use Rattle.px_world.specs.Admission.{refusal_of}
 use Rattle.px_world.specs.Event.{world_after, messages_taken, is_to_stop}
 use Rattle.px_world.specs.Doing.{world_stopping}
-use Rattle.px_world.specs.History.{entries_of}
+use Rattle.px_world.specs.History.{entries_of, played_on}
 
 -- ---- a run in which sinks may fail
 
@@ -87,7 +88,7 @@ stretches_of track = map (λ x. Settled.stretch x) track
 abbrev pub stretches_at : ℕ → List Settled → List Stretch
 stretches_at k track = stretches_of (filter (λ x. nat_eq (Settled.sink x) k) track)
 
--- ---- the history of sink `k`
+-- ---- the history of sink `k`, and the frames that it plays
 
 abbrev pub entries_by : World → Doing → ℕ → List Entry
 entries_by w (happens e) k = entries_of w e k
@@ -96,3 +97,15 @@ entries_by w (fails sink) k = []
 abbrev pub history_over : World → List Doing → ℕ → List Entry
 history_over w [] k = []
 history_over w (d ∷ doings) k = entries_by w d k ++ history_over (done w d) doings k
+
+abbrev pub played_by_doing : World → Doing → ℕ → List Frame
+played_by_doing w (happens e) k = played_on w e k
+played_by_doing w (fails sink) k = []
+
+abbrev pub played_over : World → List Doing → ℕ → List Frame
+played_over w [] k = []
+played_over w (d ∷ doings) k = played_by_doing w d k ++ played_over (done w d) doings k
+
+-- a run of events alone
+abbrev pub all_happen : List Event → List Doing
+all_happen events = map happens events
