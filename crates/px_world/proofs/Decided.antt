@@ -8,6 +8,7 @@ use Rattle.px_header.specs.declared.header.Header.{Header}
 use Rattle.px_header.specs.declared.header.SinkSpec.{SinkSpec}
 use Rattle.px_session.specs.declared.event.Event.{Event}
 use Rattle.px_msg.specs.View.{sample_spec}
+use Rattle.px_model.specs.Frame.{Frame}
 use Rattle.px_model.specs.Sink.{Sink}
 use Rattle.px_model.specs.Turn.{frame_mixed}
 use Rattle.px_model.specs.Deciding.{Entry, turn, stop, sink_after, replay, replay_played, CanBe, IsHistory, deciding, decided, IsLastReaching}
@@ -15,8 +16,10 @@ use Rattle.px_model.proofs.Decided.{run_is_consumed, run_is_decided, run_has_one
 use Rattle.px_stream.specs.Samples.{samples}
 use Rattle.px_world.specs.World.{Mixer, new_mixer, new_world}
 use Rattle.px_world.specs.Output.{world_by, AreAdmitted}
-use Rattle.px_world.specs.History.{history_by, played_by_run, begun, sink_at, IsDecided}
+use Rattle.px_world.specs.History.{history_by, played_by_run, begun, sink_at, IsDecidedIn, IsDecided}
+use Rattle.px_world.specs.Continuity.{Doing, done_all, CanAllBeDone, history_over, played_over}
 use Rattle.px_world.proofs.Histories.{HasGone, has_gone}
+use Rattle.px_world.proofs.Tracks.{HasGoneOver, has-gone-over}
 
 -- ---- what was consumed lies below the horizon
 
@@ -40,6 +43,25 @@ early start history f sink first h l =
 
 -- ---- from the empty sink
 
+module _ (s : SinkSpec) (history : List Entry) (played : List Frame) (same : played ≡ replay_played samples (begun s) history) (h : IsHistory samples (begun s) history) where
+  pub all-consumed : length played ≡ (replay samples (begun s) history).consumed
+  all-consumed = ap length same ∙ run_is_consumed samples (sample_spec s.spec) s.guard s.depth history h
+
+  -- the sink that decides it
+  from : (f : ℕ) → slice_get played f ≡ decided samples (begun s) history f → (o : Option Sink) → deciding samples (begun s) history f ≡ o → IsSome o → IsDecidedIn (begun s) history played f
+  from f frame None is some = absurd (both_ways false refl some)
+  from f frame (Some by) is some =
+      let last : IsLastReaching samples (begun s) history f by = last_reaching samples (begun s) history f by is in
+      record { by = by; last = last; early = early (begun s) history f by (omega arith) h last; frame = frame ∙ ap (option_map (frame_mixed samples f)) is }
+
+  pub decided-in : (f : ℕ) → f < length played → IsDecidedIn (begun s) history played f
+  decided-in f below =
+      let within : f < (replay samples (begun s) history).consumed = omega (arith, below, all-consumed) in
+      from f (ap (λ l. slice_get l f) same ∙ run_is_decided samples (sample_spec s.spec) s.guard s.depth history h f within) (deciding samples (begun s) history f) refl
+      (run_has_one samples (sample_spec s.spec) s.guard s.depth history h f within)
+
+-- ---- a run of events
+
 module _ (header : Header) (events : List Event) (k : ℕ) (s : SinkSpec) (there : slice_get header.sinks k ≡ Some s) where
   gone : HasGone (new_world header) events k (new_mixer s)
   gone = has_gone (new_world header) events k (new_mixer s) (slice_get-map new_mixer header.sinks k ∙ ap (option_map new_mixer) there)
@@ -55,30 +77,30 @@ module _ (header : Header) (events : List Event) (k : ℕ) (s : SinkSpec) (there
 
   pub played-consumed : AreAdmitted (new_world header) events
       → length (played_by_run (new_world header) events k) ≡ (replay samples (begun s) (history_by (new_world header) events k)).consumed
-  played-consumed admitted =
-      ap length gone.played
-      ∙ run_is_consumed samples (sample_spec s.spec) s.guard s.depth (history_by (new_world header) events k) (gone.history admitted)
-
-  -- the sink that decides it
-  from : (f : ℕ) → IsHistory samples (begun s) (history_by (new_world header) events k)
-      → slice_get (played_by_run (new_world header) events k) f ≡ decided samples (begun s) (history_by (new_world header) events k) f
-      → (o : Option Sink) → deciding samples (begun s) (history_by (new_world header) events k) f ≡ o → IsSome o → IsDecided header events k s f
-  from f h frame None is some = absurd (both_ways false refl some)
-  from f h frame (Some by) is some =
-      let last : IsLastReaching samples (begun s) (history_by (new_world header) events k) f by =
-      last_reaching samples (begun s) (history_by (new_world header) events k) f by is in
-      record {
-        by = by;
-        last = last;
-        early = early (begun s) (history_by (new_world header) events k) f by (omega arith) h last;
-        frame = frame ∙ ap (option_map (frame_mixed samples f)) is;
-      }
+  played-consumed admitted = all-consumed s (history_by (new_world header) events k) (played_by_run (new_world header) events k) gone.played (gone.history admitted)
 
   pub is-decided : AreAdmitted (new_world header) events → (f : ℕ) → f < length (played_by_run (new_world header) events k) → IsDecided header events k s f
-  is-decided admitted f below =
-      let h : IsHistory samples (begun s) (history_by (new_world header) events k) = gone.history admitted in
-      let within : f < (replay samples (begun s) (history_by (new_world header) events k)).consumed = omega (arith, below, played-consumed admitted) in
-      from f h
-      (ap (λ l. slice_get l f) gone.played ∙ run_is_decided samples (sample_spec s.spec) s.guard s.depth (history_by (new_world header) events k) h f within)
-      (deciding samples (begun s) (history_by (new_world header) events k) f) refl
-      (run_has_one samples (sample_spec s.spec) s.guard s.depth (history_by (new_world header) events k) h f within)
+  is-decided admitted f below = decided-in s (history_by (new_world header) events k) (played_by_run (new_world header) events k) gone.played (gone.history admitted) f below
+
+-- ---- a run in which sinks may fail
+
+module _ (header : Header) (doings : List Doing) (k : ℕ) (s : SinkSpec) (there : slice_get header.sinks k ≡ Some s) where
+  gone-over : HasGoneOver (new_world header) doings k (new_mixer s)
+  gone-over = has-gone-over (new_world header) doings k (new_mixer s) (slice_get-map new_mixer header.sinks k ∙ ap (option_map new_mixer) there)
+
+  pub sink-over : sink_at (done_all (new_world header) doings) k ≡ Some (replay samples (begun s) (history_over (new_world header) doings k))
+  sink-over = ap (option_map (λ m. Mixer.sink m)) gone-over.there ∙ ap (λ t. Some t) gone-over.sink
+
+  pub played-over : played_over (new_world header) doings k ≡ replay_played samples (begun s) (history_over (new_world header) doings k)
+  played-over = gone-over.played
+
+  pub history-can : CanAllBeDone (new_world header) doings → IsHistory samples (begun s) (history_over (new_world header) doings k)
+  history-can = gone-over.history
+
+  pub consumed-over : CanAllBeDone (new_world header) doings
+      → length (played_over (new_world header) doings k) ≡ (replay samples (begun s) (history_over (new_world header) doings k)).consumed
+  consumed-over can = all-consumed s (history_over (new_world header) doings k) (played_over (new_world header) doings k) gone-over.played (gone-over.history can)
+
+  pub decided-over : CanAllBeDone (new_world header) doings → (f : ℕ) → f < length (played_over (new_world header) doings k)
+      → IsDecidedIn (begun s) (history_over (new_world header) doings k) (played_over (new_world header) doings k) f
+  decided-over can f below = decided-in s (history_over (new_world header) doings k) (played_over (new_world header) doings k) gone-over.played (gone-over.history can) f below

@@ -39,7 +39,7 @@ get-set_other (z ∷ xs) (suc i) (suc k) y h = get-set_other xs i k y (λ e. h (
 
 module _ (mixers : List Mixer) (sink k : ℕ) (m : Mixer) (there : slice_get mixers k ≡ Some m) (change : Mixer → Mixer) where
   -- it is the one that changes
-  changed-there : nat_eq sink k ≡ true → slice_get (change_at mixers sink (slice_get mixers sink) change) k ≡ Some (change m)
+  pub changed-there : nat_eq sink k ≡ true → slice_get (change_at mixers sink (slice_get mixers sink) change) k ≡ Some (change m)
   changed-there e =
       let same : sink ≡ k = eqb-true sink k e in
       let at : slice_get mixers sink ≡ Some m = ap (slice_get mixers) same ∙ there in
@@ -48,7 +48,7 @@ module _ (mixers : List Mixer) (sink k : ℕ) (m : Mixer) (there : slice_get mix
       ∙ get-set_same mixers k m (change m) there
 
   -- it is another
-  changed-elsewhere : nat_eq sink k ≡ false → slice_get (change_at mixers sink (slice_get mixers sink) change) k ≡ Some m
+  pub changed-elsewhere : nat_eq sink k ≡ false → slice_get (change_at mixers sink (slice_get mixers sink) change) k ≡ Some m
   changed-elsewhere e = consistent (slice_get mixers sink)
     where
       consistent : (o : Option Mixer) → slice_get (change_at mixers sink o change) k ≡ Some m
@@ -69,7 +69,7 @@ not_too_many asked there e =
     (λ (enough : nat_lt there asked ≡ false). ltb-false there asked enough)
     (cases_Bool (nat_lt there asked))
 
-frames_there : (m : Mixer) (frames n waiting : ℕ) → turn_refusal (Some m) frames n waiting ≡ None → frames ≤ m.sink.filled - m.sink.consumed
+pub frames_there : (m : Mixer) (frames n waiting : ℕ) → turn_refusal (Some m) frames n waiting ≡ None → frames ≤ m.sink.filled - m.sink.consumed
 frames_there m frames n waiting e =
     let past : or_else (too_many frames (m.sink.filled - m.sink.consumed)) (too_many n waiting) ≡ None =
     (or_else-none (cond (nat_lt LAST_FILLED m.sink.filled) (Some WorldFault.Worn) None) (or_else (too_many frames (m.sink.filled - m.sink.consumed)) (too_many n waiting)) e).1 in
@@ -83,12 +83,12 @@ can_be m frames messages false e h = (h, (or_parts m.sink.stopped m.failing e).0
 -- ---- one event
 
 -- the sink with this mixer goes through what the event adds to its history
-record GoesThrough (w : World) (e : Event) (k : ℕ) (m : Mixer) : Type 0 where
-  next : Mixer
-  there : slice_get (mixers_after w e) k ≡ Some next
-  sink : next.sink ≡ replay samples m.sink (entries_of w e k)
-  played : played_on w e k ≡ replay_played samples m.sink (entries_of w e k)
-  history : refusal_of w e ≡ None → IsHistory samples m.sink (entries_of w e k)
+pub record GoesThrough (w : World) (e : Event) (k : ℕ) (m : Mixer) : Type 0 where
+  pub next : Mixer
+  pub there : slice_get (mixers_after w e) k ≡ Some next
+  pub sink : next.sink ≡ replay samples m.sink (entries_of w e k)
+  pub played : played_on w e k ≡ replay_played samples m.sink (entries_of w e k)
+  pub history : refusal_of w e ≡ None → IsHistory samples m.sink (entries_of w e k)
 
 turned-sink : (m : Mixer) (frames : ℕ) (messages : List (Message Stream)) (b : Bool) → is_to_stop m ≡ b
     → (mixer_turned m frames messages).sink ≡ sink_after samples m.sink (cond b (stop messages) (turn frames messages))
@@ -168,7 +168,7 @@ turned_or_not : (w : World) (sink frames n k : ℕ) (m : Mixer) → slice_get w.
 turned_or_not w sink frames n k m there true e = turn-here w sink frames n k m there e (is_to_stop m) refl
 turned_or_not w sink frames n k m there false e = turn-elsewhere w sink frames n k m there e
 
-goes_through : (w : World) (e : Event) (k : ℕ) (m : Mixer) → slice_get w.mixers k ≡ Some m → GoesThrough w e k m
+pub goes_through : (w : World) (e : Event) (k : ℕ) (m : Mixer) → slice_get w.mixers k ≡ Some m → GoesThrough w e k m
 goes_through w (Connect conn) k m there = record { next = m; there = there; sink = refl; played = refl; history = λ admitted. tt }
 goes_through w (Bytes conn bytes) k m there = record { next = m; there = there; sink = refl; played = refl; history = λ admitted. tt }
 goes_through w (Close conn) k m there = record { next = m; there = there; sink = refl; played = refl; history = λ admitted. tt }
@@ -179,7 +179,7 @@ goes_through w (Collect sink n) k m there = collected w sink n k m there (nat_eq
 -- ---- a run
 
 -- one history after another
-histories_join : (sink : Sink) (earlier later : List Entry) → IsHistory samples sink earlier → IsHistory samples (replay samples sink earlier) later → IsHistory samples sink (earlier ++ later)
+pub histories_join : (sink : Sink) (earlier later : List Entry) → IsHistory samples sink earlier → IsHistory samples (replay samples sink earlier) later → IsHistory samples sink (earlier ++ later)
 histories_join sink [] later h l = l
 histories_join sink (x ∷ earlier) later h l = (h.0, histories_join (sink_after samples sink x) earlier later h.1 l)
 

@@ -16,3 +16,11 @@ pub mod Doing
 pub mod Sounding
 pub mod Standings
 pub mod Beginning
+pub mod Tracks
+pub mod Resuming
+pub mod Coming
+pub mod Bodies
+pub mod Places
+pub mod Moving
+pub mod Turning
+pub mod Joining

@@ -177,15 +177,15 @@ module _ (w : World) (core : State Stream) (ms : List Mixer) (same_core : w.core
 
 -- ---- what is kept
 
-notices-are : (sink : SinkId) (ns : List (Notice Stream)) → AllByRecursion IsStep (map (λ (n : Notice Stream). notice sink (notice_for n)) ns ++ sweep ∷ [])
+pub notices-are : (sink : SinkId) (ns : List (Notice Stream)) → AllByRecursion IsStep (map (λ (n : Notice Stream). notice sink (notice_for n)) ns ++ sweep ∷ [])
 notices-are sink [] = (tt, tt)
 notices-are sink (n ∷ ns) = (tt, notices-are sink ns)
 
-notices-take : (sink : SinkId) (ns : List (Notice Stream)) → AllByRecursion GivesStream ns → AllByRecursion (Takes HasStream) (map (λ (n : Notice Stream). notice sink (notice_for n)) ns ++ sweep ∷ [])
+pub notices-take : (sink : SinkId) (ns : List (Notice Stream)) → AllByRecursion GivesStream ns → AllByRecursion (Takes HasStream) (map (λ (n : Notice Stream). notice sink (notice_for n)) ns ++ sweep ∷ [])
 notices-take sink [] h = (tt, tt)
 notices-take sink (n ∷ ns) h = (h.0, notices-take sink ns h.1)
 
-notices-spare : (other sink : SinkId) (ns : List (Notice Stream)) → AllByRecursion (Spares other) (map (λ (n : Notice Stream). notice sink (notice_for n)) ns ++ sweep ∷ [])
+pub notices-spare : (other sink : SinkId) (ns : List (Notice Stream)) → AllByRecursion (Spares other) (map (λ (n : Notice Stream). notice sink (notice_for n)) ns ++ sweep ∷ [])
 notices-spare other sink [] = (tt, tt)
 notices-spare other sink (n ∷ ns) = (tt, notices-spare other sink ns)
 

@@ -55,14 +55,19 @@ begun s = empty_sink (sample_spec s.spec) s.guard s.depth
 abbrev pub sink_at : World → ℕ → Option Sink
 sink_at w k = option_map (λ m. Mixer.sink m) (slice_get w.mixers k)
 
--- Frame `f` that sink `k` plays in a run is what its deciding turn made of it: the mix of the streams after that turn
-pub record IsDecided (header : Header) (events : List Event) (k : ℕ) (s : SinkSpec) (f : ℕ) : Type 0 where
-  -- the sink after that turn: of all turns of the sink in the run the last whose horizon is at most `f`
+-- Frame `f` of those that a sink has played, from its start over its history, is what its deciding turn made of it: the mix of the streams after that
+-- turn
+pub record IsDecidedIn (start : Sink) (history : List Entry) (played : List Frame) (f : ℕ) : Type 0 where
+  -- the sink after that turn: of all turns of the history the last whose horizon is at most `f`
   pub by : Sink
-  pub last : IsLastReaching samples (begun s) (history_by (new_world header) events k) f by
+  pub last : IsLastReaching samples start history f by
   -- at its end `f` wasn't played yet
   pub early : by.consumed ≤ f
-  pub frame : slice_get (played_by_run (new_world header) events k) f ≡ Some (frame_mixed samples f by)
+  pub frame : slice_get played f ≡ Some (frame_mixed samples f by)
+
+-- so is frame `f` that sink `k` plays in a run
+abbrev pub IsDecided : Header → List Event → ℕ → SinkSpec → ℕ → Type 0
+IsDecided header events k s f = IsDecidedIn (begun s) (history_by (new_world header) events k) (played_by_run (new_world header) events k) f
 
 -- every frame that a sink plays in a run is what its deciding turn made of it
 abbrev pub AreDecided : Header → List Event → Type 0

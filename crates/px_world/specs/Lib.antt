@@ -10,3 +10,5 @@ pub mod Outcome
 pub mod Consistency
 pub mod Playing
 pub mod Doing
+pub mod Continuity
+pub mod Whereabouts

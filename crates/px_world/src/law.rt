@@ -1,6 +1,6 @@
 // The laws of the definitions.
 
-ghost use Rattle.std.specs.Prelude.{◌≡◌, ℕ, List, [], ◌∷◌, ◌++◌, length, Some, None};
+ghost use Rattle.std.specs.Prelude.{◌≡◌, ℕ, ◌<◌, List, [], ◌∷◌, ◌++◌, length, Some, None};
 ghost use Rattle.std.specs.List.{slice_get};
 ghost use Rattle.px_header.specs.declared.header.Header.{Header};
 ghost use Rattle.px_header.specs.declared.header.SinkSpec.{SinkSpec};
@@ -11,7 +11,10 @@ ghost use Rattle.px_world.specs.World.{World, new_world};
 ghost use Rattle.px_world.specs.Admission.{refusal_of};
 ghost use Rattle.px_world.specs.Event.{world_after, effects_after};
 ghost use Rattle.px_world.specs.Output.{world_by, records_of, records_by, effects_by_run, AreAdmitted, output_of};
-ghost use Rattle.px_world.specs.History.{history_by, played_by_run, begun, sink_at, AreDecided};
+ghost use Rattle.px_world.specs.History.{history_by, played_by_run, begun, sink_at, IsDecidedIn, AreDecided};
+ghost use Rattle.px_header.specs.HeaderRules.{IsHeader};
+ghost use Rattle.px_model.specs.Track.{IsJoined, Rise, indices_of_all, track_of};
+ghost use Rattle.px_world.specs.Continuity.{Doing, done_all, CanAllBeDone, track_by, stretches_of, stretches_at, history_over, played_over, all_happen};
 ghost use Rattle.px_world.specs.Worked.{small_header, small_events, small_output};
 
 /// In a run of admitted events every frame that a sink plays is what its deciding turn made of it: the mix of the sink's streams after that turn.
@@ -41,6 +44,33 @@ pub fn sinks_replay_their_histories()
         ≡ (replay samples (begun s) (history_by (new_world header) events k)).consumed }
 {}
 
+/// What holds of a run of events holds where sinks are made to fail between them: the state of a sink is the replay of its
+/// history, its frames are those of that replay, all that it consumed, and each is what its deciding turn made of it. A run
+/// of events is one in which no sink is made to fail. Source: own.
+pub fn sinks_replay_their_histories_where_they_fail()
+    ensures sinks { (header : Header) (doings : List Doing) (k : ℕ) (s : SinkSpec)
+        → slice_get header.sinks k ≡ Some s
+        → sink_at (done_all (new_world header) doings) k
+        ≡ Some (replay samples (begun s) (history_over (new_world header) doings k)) }
+    ensures played { (header : Header) (doings : List Doing) (k : ℕ) (s : SinkSpec)
+        → slice_get header.sinks k ≡ Some s
+        → played_over (new_world header) doings k
+        ≡ replay_played samples (begun s) (history_over (new_world header) doings k) }
+    ensures histories { (header : Header) (doings : List Doing) (k : ℕ) (s : SinkSpec)
+        → slice_get header.sinks k ≡ Some s → CanAllBeDone (new_world header) doings
+        → IsHistory samples (begun s) (history_over (new_world header) doings k) }
+    ensures all_consumed { (header : Header) (doings : List Doing) (k : ℕ) (s : SinkSpec)
+        → slice_get header.sinks k ≡ Some s → CanAllBeDone (new_world header) doings
+        → length (played_over (new_world header) doings k)
+        ≡ (replay samples (begun s) (history_over (new_world header) doings k)).consumed }
+    ensures decided { (header : Header) (doings : List Doing) (k : ℕ) (s : SinkSpec)
+        → slice_get header.sinks k ≡ Some s → CanAllBeDone (new_world header) doings
+        → (f : ℕ) → f < length (played_over (new_world header) doings k)
+        → IsDecidedIn (begun s) (history_over (new_world header) doings k) (played_over (new_world header) doings k) f }
+    ensures admitted { (w : World) (events : List Event) → AreAdmitted w events → CanAllBeDone w (all_happen events) }
+    ensures happened { (w : World) (events : List Event) → done_all w (all_happen events) ≡ world_by w events }
+{}
+
 /// A run proceeds event by event: the world, the output, the effects and the admission. Source: own.
 pub fn runs_go_on()
     ensures world { (w : World) (events : List Event) (e : Event)
@@ -51,6 +81,24 @@ pub fn runs_go_on()
         → effects_by_run w (events ++ e ∷ []) ≡ effects_by_run w events ++ effects_after (world_by w events) e }
     ensures admitted { (w : World) (events : List Event) (e : Event) → AreAdmitted w events
         → refusal_of (world_by w events) e ≡ None → AreAdmitted w (events ++ e ∷ []) }
+{}
+
+/// Whatever is done to a world, the frames of an input that are settled as played are consecutive, over all sinks that it
+/// moves to: each stretch begins where the one before it ended, or past that where that one ran on without prebuffering. So
+/// its indices rise: none is settled twice. The stretches settled at a sink are those of the sink's own history, so no turn
+/// is left out. A frame that a flush gives up is never settled, and a sink that stopped may not have played what it settled.
+/// Source: own.
+pub fn continuity()
+    ensures joined { (header : Header) (doings : List Doing) (i : ℕ) → IsHeader header
+        → CanAllBeDone (new_world header) doings
+        → IsJoined (stretches_of (track_by (new_world header) doings i)) }
+    ensures rising { (header : Header) (doings : List Doing) (i : ℕ) → IsHeader header
+        → CanAllBeDone (new_world header) doings
+        → Rise (indices_of_all (stretches_of (track_by (new_world header) doings i))) }
+    ensures whole { (header : Header) (doings : List Doing) (k i : ℕ) (s : SinkSpec)
+        → slice_get header.sinks k ≡ Some s
+        → stretches_at k (track_by (new_world header) doings i)
+        ≡ track_of samples (begun s) (history_over (new_world header) doings k) i }
 {}
 
 /// Two runs, one after the other, are one run: its world, its output, its effects and its admission. Source: own.
