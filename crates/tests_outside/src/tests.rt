@@ -1,4 +1,5 @@
 mod host;
+mod late;
 mod paced;
 mod system_host;
 mod words;
