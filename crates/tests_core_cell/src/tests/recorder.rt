@@ -13,7 +13,8 @@ pub(crate) struct Crowded {
 
 impl Crowded {
     pub fn new(alloc: Global, full_at: usize) -> Crowded
-        ensures { result.entries.items ≡ [] }
+        ensures none { result.entries.items ≡ [] }
+        ensures fulls { result.fulls ≡ 0 }
     {
         Crowded {
             entries: Vec::new(alloc),
