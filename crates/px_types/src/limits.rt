@@ -2,7 +2,10 @@
 //! px_tag, which stands on no crate, has its own `CHANNELS_MAX` and `VALUE_MAX`.
 
 /// The greatest version of the native protocol that the server speaks: `PA_PROTOCOL_VERSION` of PulseAudio's `configure`.
-pub const PROTOCOL_VERSION: u16 = 13;
+pub const PROTOCOL_VERSION: u16 = 18;
+
+/// The least version that a client may have: one below it is refused. Own: PulseAudio takes clients from version 8 on.
+pub const LEAST_PROTOCOL_VERSION: u16 = 13;
 
 /// The most clients that are connected at a time: `MAX_CONNECTIONS` of `pulsecore/protocol-native.c`.
 pub const MAX_CONNECTIONS: usize = 64;
@@ -40,8 +43,11 @@ pub const MAX_INDEX: u64 = 1 << 60;
 /// The most bytes of a recorded session, 2^40. Own.
 pub const MAX_SESSION: u64 = 1 << 40;
 
-/// The most bytes of one Bytes event of a recorded session. Own.
+/// The most bytes of one Bytes event of a recorded session of the first form. Own.
 pub const MAX_EVENT_BYTES: usize = 65_536;
+
+/// The most bytes of one Bytes event of a recorded session of the second form. Own.
+pub const MAX_LONG_EVENT_BYTES: usize = 1_048_576;
 
 /// The most entries of a history that is held in memory. Own.
 pub const MAX_HISTORY_ENTRIES: usize = 65_536;
