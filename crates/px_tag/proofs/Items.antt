@@ -10,8 +10,8 @@ use Rattle.px_tag.specs.declared.fault.TagFault.{TagFault}
 use Rattle.px_tag.specs.declared.fault.TagFault.TheVariants.{WrongTag, BadValue}
 use Rattle.px_tag.specs.Place.{Place, Reading, offset_of, ◌>>=◌}
 use Rattle.px_tag.specs.Law.{AreBytes, Stands, HasOneSpelling}
-use Rattle.px_tag.specs.Item.{number, byte, wide, signed, usec, flag, text, arbitrary, AnyFlag, IsText, IsCounted, HasLength}
-use Rattle.px_tag.specs.Reading.{next_at, tagged_at, field_at, bytes_at, string_at, number_at, byte_at, wide_at, signed_at, usec_at, flag_at, text_at, arbitrary_at, counted_at}
+use Rattle.px_tag.specs.Item.{number, volume, byte, wide, signed, usec, flag, text, arbitrary, AnyFlag, IsText, IsCounted, HasLength}
+use Rattle.px_tag.specs.Reading.{next_at, tagged_at, field_at, bytes_at, string_at, number_at, volume_at, byte_at, wide_at, signed_at, usec_at, flag_at, text_at, arbitrary_at, counted_at}
 use Rattle.px_tag.proofs.Steps.{bind_ok, check_ok, checked, ok_is, Stands-then, one_from_again}
 use Rattle.px_tag.proofs.Fields.{next_found, next_again, tagged_found, tagged_again, IsWide, wide32, wide64, field_found, field_again, bytes_found, bytes_again}
 use Rattle.px_tag.proofs.Strings.{string_found, string_again}
@@ -59,6 +59,10 @@ module _ {A : Type 0} (tag : ℕ) (IsValue : A → Type 0) (part : A → List �
 pub number_law : HasOneSpelling (λ n. n < 2 ^ 32) number number_at
 unfolding number number_at
 number_law = tagged_law 0x4C (λ n. n < 2 ^ 32) (to_be_bytes w32) (field_at w32) (field_law w32 (2 ^ 32) wide32)
+
+pub volume_law : HasOneSpelling (λ n. n < 2 ^ 32) volume volume_at
+unfolding volume volume_at
+volume_law = tagged_law 0x56 (λ n. n < 2 ^ 32) (to_be_bytes w32) (field_at w32) (field_law w32 (2 ^ 32) wide32)
 
 pub byte_law : HasOneSpelling (λ n. n < 2 ^ 8) byte byte_at
 unfolding byte byte_at

@@ -55,6 +55,11 @@ number_at place = do
   field ← tagged_at 0x4C place
   field_at w32 field
 
+unfoldable pub volume_at : Reading ℕ
+volume_at place = do
+  field ← tagged_at 0x56 place
+  field_at w32 field
+
 unfoldable pub byte_at : Reading ℕ
 byte_at place = do
   field ← tagged_at 0x42 place

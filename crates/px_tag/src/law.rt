@@ -2,15 +2,16 @@
 
 ghost use Rattle.std.specs.Prelude.{◌≡◌, ℕ, ◌<◌, ◌^◌, ◌++◌, List, Ok, FitsSigned};
 ghost use Rattle.std.specs.Int.{w64};
-ghost use Rattle.px_tag.specs.Item.{number, byte, wide, signed, usec, flag, text, arbitrary, spec, channel_map, channel_volumes, time, proplist, AnyFlag, IsText, IsCounted, HasLength, IsSpec, IsMap, IsVolumes, IsTime, AreProperties, IsPropList};
+ghost use Rattle.px_tag.specs.Item.{number, volume, byte, wide, signed, usec, flag, text, arbitrary, spec, channel_map, channel_volumes, time, proplist, AnyFlag, IsText, IsCounted, HasLength, IsSpec, IsMap, IsVolumes, IsTime, AreProperties, IsPropList};
 ghost use Rattle.px_tag.specs.PropList.{Property, meaning};
-ghost use Rattle.px_tag.specs.Reading.{number_at, byte_at, wide_at, signed_at, usec_at, flag_at, text_at, arbitrary_at, counted_at, spec_at, map_at, volumes_at, time_at, written_at, proplist_at};
+ghost use Rattle.px_tag.specs.Reading.{number_at, volume_at, byte_at, wide_at, signed_at, usec_at, flag_at, text_at, arbitrary_at, counted_at, spec_at, map_at, volumes_at, time_at, written_at, proplist_at};
 ghost use Rattle.px_tag.specs.Law.{HasOneSpelling};
 
 /// Each value of a kind has one spelling, and is read exactly where that spelling is, whatever follows it; no spelling is the beginning of
 /// another of its kind. The function does nothing: its contract is the law.
 pub fn one_spelling()
     ensures numbers { HasOneSpelling (λ n. n < 2 ^ 32) number number_at }
+    ensures levels { HasOneSpelling (λ n. n < 2 ^ 32) volume volume_at }
     ensures bytes { HasOneSpelling (λ n. n < 2 ^ 8) byte byte_at }
     ensures wides { HasOneSpelling (λ n. n < 2 ^ 64) wide wide_at }
     ensures signeds { HasOneSpelling (FitsSigned w64) signed signed_at }

@@ -1,10 +1,13 @@
-use Rattle.px_tag.proofs.Items.{number_law, byte_law, wide_law, signed_law, usec_law, flag_law, text_law, arbitrary_law, counted_law}
+use Rattle.px_tag.proofs.Items.{number_law, volume_law, byte_law, wide_law, signed_law, usec_law, flag_law, text_law, arbitrary_law, counted_law}
 use Rattle.px_tag.proofs.Parts.{spec_law, map_law, volumes_law, time_law}
 use Rattle.px_tag.proofs.Written.{written_law, list_again, meaning_rules}
 use Rattle.px_tag.proofs.law.one_spelling.Goals as goal
 
 pub returns-clause-numbers : goal.returns-clause-numbers
 returns-clause-numbers c = number_law
+
+pub returns-clause-levels : goal.returns-clause-levels
+returns-clause-levels c = volume_law
 
 pub returns-clause-bytes : goal.returns-clause-bytes
 returns-clause-bytes c = byte_law
