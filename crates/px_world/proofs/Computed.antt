@@ -19,7 +19,7 @@ unfolding meaning_of descriptor_in sent_record closed_record played_record step_
 small-given = refl
 
 pub small-can : CanAllBeDone small_world small_doings
-small-can = (refl, (refl, (refl, (omega arith, (refl, tt)))))
+small-can = (refl, (refl, (refl, (refl, (refl, (omega arith, (refl, tt)))))))
 
 pub small-tracked : track_by small_world small_doings 3 ≡ small_track
 small-tracked = refl
