@@ -1,5 +1,5 @@
 -- What the definitions compute to for the session worked by hand.
-use Rattle.std.proofs.Common.{◌≡◌, refl}
+use Rattle.std.proofs.Common.{◌≡◌, refl, arith}
 use Rattle.px_tag.specs.Item.{number, text, spec, channel_map, channel_volumes, flag, usec, proplist}
 use Rattle.px_frame.specs.Descriptor.{descriptor_in}
 use Rattle.px_frame.specs.Meaning.{meaning_of}
@@ -7,7 +7,8 @@ use Rattle.px_state.specs.Events.{step_events}
 use Rattle.px_world.specs.World.{new_world}
 use Rattle.px_session.specs.Output.{sent_record, closed_record, played_record}
 use Rattle.px_world.specs.Output.{AreAdmitted, output_of}
-use Rattle.px_world.specs.Worked.{small_header, small_events, small_output}
+use Rattle.px_world.specs.Worked.{small_header, small_events, small_output, small_world, small_doings, small_track}
+use Rattle.px_world.specs.Continuity.{track_by, CanAllBeDone}
 
 pub small-admitted : AreAdmitted (new_world small_header) small_events
 unfolding meaning_of descriptor_in
@@ -16,3 +17,9 @@ small-admitted = (refl, (refl, (refl, (refl, (refl, (refl, (refl, tt)))))))
 pub small-given : output_of small_header small_events ≡ small_output
 unfolding meaning_of descriptor_in sent_record closed_record played_record step_events number text spec channel_map channel_volumes flag usec proplist
 small-given = refl
+
+pub small-can : CanAllBeDone small_world small_doings
+small-can = (refl, (refl, (refl, (refl, (refl, (omega arith, (refl, tt)))))))
+
+pub small-tracked : track_by small_world small_doings 3 ≡ small_track
+small-tracked = refl

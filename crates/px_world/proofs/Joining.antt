@@ -1,5 +1,5 @@
--- Over any run the track of an input is joined, and its indices rise.
-use Rattle.std.proofs.Common.{◌≡◌, ℕ, zero, suc, ◌<◌, ◌≤◌, arith, List, [], ◌∷◌, ◌++◌, map, take, set, length, replicate, Option, None, Some, refl, ap, sym, subst}
+-- Over any run the track of an input is joined, its indices rise, and its stream stands ready to go on.
+use Rattle.std.proofs.Common.{◌≡◌, ℕ, zero, suc, ◌<◌, ◌≤◌, arith, List, [], ◌∷◌, ◌++◌, map, take, set, length, replicate, Option, None, Some, refl, ap, sym, ◌∙◌, subst}
 use Rattle.std.specs.Prelude.{nat_lt}
 use Rattle.std.specs.List.{AllByRecursion, slice_get}
 use Rattle.std.proofs.lemmas.Bool.{cond_both}
@@ -23,15 +23,15 @@ use Rattle.px_world.specs.World.{World, Mixer, new_mixer, new_world, link_of, re
 use Rattle.px_world.specs.Admission.{refusal_of, turn_refusal, collect_refusal}
 use Rattle.px_world.specs.Event.{world_after, all_steps, mixers_after, bytes_steps, notices_of, mixer_turned, mixer_collected, change_at, messages_taken}
 use Rattle.px_world.specs.Doing.{set_to_fail}
-use Rattle.px_world.specs.Continuity.{Doing, happens, fails, done, CanBeDone, CanAllBeDone, settled_in, at_sink, settled_by_event, settled_by, track_by, stretches_of}
-use Rattle.px_world.specs.Whereabouts.{MovesReady, unborn, coming, places, IsReadyAt}
+use Rattle.px_world.specs.Continuity.{Doing, happens, fails, done, CanBeDone, done_all, CanAllBeDone, settled_in, at_sink, settled_by_event, settled_by, track_by, stretches_of}
+use Rattle.px_world.specs.Whereabouts.{last_of, Stands, MovesReady, unborn, coming, places, IsReadyAt}
 use Rattle.px_world.proofs.Beginning.{consistent-first}
 use Rattle.px_world.proofs.Bodies.{ArePlain, bytes-plain, plain-join}
 use Rattle.px_world.proofs.Histories.{frames_there}
 use Rattle.px_world.proofs.Moving.{Holds, plain-holds, collect-holds, fail-holds}
 use Rattle.px_world.proofs.Places.{there-at}
 use Rattle.px_world.proofs.Tracks.{map_join}
-use Rattle.px_world.proofs.Turning.{last_of, JoinsOn, GoesOn, turn-goes-on}
+use Rattle.px_world.proofs.Turning.{JoinsOn, GoesOn, turn-goes-on}
 
 -- ---- one doing
 
@@ -102,6 +102,18 @@ joined-from w (d ∷ doings) i last can h =
     subst (JoinsOn last) (sym (map_join (settled_by w d i) (track_by (done w d) doings i)))
     (on.joins (stretches_of (track_by (done w d) doings i)) (joined-from (done w d) doings i (last_of last (stretches_of (settled_by w d i))) can.1 on.holds))
 
+last-join : (last : Option Stretch) (xs ys : List Stretch) → last_of last (xs ++ ys) ≡ last_of (last_of last xs) ys
+last-join last [] ys = refl
+last-join last (x ∷ xs) ys = last-join (Some x) xs ys
+
+holds-over : (w : World) (doings : List Doing) (i : ℕ) (last : Option Stretch) → CanAllBeDone w doings → HoldsIn w i last → HoldsIn (done_all w doings) i (last_of last (stretches_of (track_by w doings i)))
+holds-over w [] i last can h = h
+holds-over w (d ∷ doings) i last can h =
+    let first : List Stretch = stretches_of (settled_by w d i) in
+    subst (HoldsIn (done_all (done w d) doings) i)
+    (sym (ap (last_of last) (map_join (settled_by w d i) (track_by (done w d) doings i)) ∙ last-join last first (stretches_of (track_by (done w d) doings i))))
+    (holds-over (done w d) doings i (last_of last first) can.1 (GoesOn.holds (doing-goes w d i last can.0 h)))
+
 -- ---- before the first event
 
 none-queued : (i count : ℕ) → coming i (replicate count []) ≡ 0
@@ -135,3 +147,7 @@ joined header doings i h can = joined-from (new_world header) doings i None can 
 
 pub rising : (header : Header) (doings : List Doing) (i : ℕ) → IsHeader header → CanAllBeDone (new_world header) doings → Rise (indices_of_all (stretches_of (track_by (new_world header) doings i)))
 rising header doings i h can = joined_rise (stretches_of (track_by (new_world header) doings i)) (joined header doings i h can)
+
+pub stands : (header : Header) (doings : List Doing) (i : ℕ) → IsHeader header → CanAllBeDone (new_world header) doings
+    → Stands (done_all (new_world header) doings).core (done_all (new_world header) doings).mixers i (last_of None (stretches_of (track_by (new_world header) doings i)))
+stands header doings i h can = Holds.stands (holds-over (new_world header) doings i None can (holds-first header i h))

@@ -27,7 +27,7 @@ use Rattle.px_world.specs.World.{Mixer}
 use Rattle.px_world.specs.Event.{is_to_stop, mixer_stopped, mixer_played, mixer_turned}
 use Rattle.px_world.specs.Consistency.{AreConsistent}
 use Rattle.px_world.specs.Continuity.{entry_in}
-use Rattle.px_world.specs.Whereabouts.{Resumes, StaysReady, MovesReady, times, unborn, carried, coming, given_up, places_at, places, IsReadyAt, Stands}
+use Rattle.px_world.specs.Whereabouts.{Resumes, last_of, StaysReady, MovesReady, times, unborn, carried, coming, given_up, places_at, places, IsReadyAt, Stands}
 use Rattle.px_world.proofs.Coming.{turn-within, all-opens-carried}
 use Rattle.px_world.proofs.Consistent.{consistent-turn}
 use Rattle.px_world.proofs.Moving.{Holds, whole-of}
@@ -185,11 +185,6 @@ present-onward core mixers k i by m s last there holds h some =
     }
 
 -- ---- the turn
-
--- the last stretch of all
-abbrev pub last_of : Option Stretch → List Stretch → Option Stretch
-last_of last [] = last
-last_of last (x ∷ track) = last_of (Some x) track
 
 -- a track goes on from the last stretch before it
 abbrev pub JoinsOn : Option Stretch → List Stretch → Type 0

@@ -20,6 +20,11 @@ abbrev pub Resumes : Option Stretch → ℤ → Type 0
 Resumes None read = ⊤
 Resumes (Some x) read = ((read ≡ onward x.from x.count) ⊎ IsTrue x.ran_on) × (onward x.from x.count ≤ℤ read)
 
+-- the last of some stretches, or else the one before them
+abbrev pub last_of : Option Stretch → List Stretch → Option Stretch
+last_of last [] = last
+last_of last (x ∷ track) = last_of (Some x) track
+
 -- the stream at a sink, if it is there, stands so
 abbrev pub StaysReady : Option Stretch → Option Stream → Type 0
 StaysReady last stream = IfSome stream (λ s. Resumes last s.queue.read)

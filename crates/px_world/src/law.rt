@@ -15,7 +15,8 @@ ghost use Rattle.px_world.specs.History.{history_by, played_by_run, begun, sink_
 ghost use Rattle.px_header.specs.HeaderRules.{IsHeader};
 ghost use Rattle.px_model.specs.Track.{IsJoined, Rise, indices_of_all, track_of};
 ghost use Rattle.px_world.specs.Continuity.{Doing, done_all, CanAllBeDone, track_by, stretches_of, stretches_at, history_over, played_over, all_happen};
-ghost use Rattle.px_world.specs.Worked.{small_header, small_events, small_output};
+ghost use Rattle.px_world.specs.Whereabouts.{last_of, Stands};
+ghost use Rattle.px_world.specs.Worked.{small_header, small_events, small_output, small_world, small_doings, small_track};
 
 /// In a run of admitted events every frame that a sink plays is what its deciding turn made of it: the mix of the sink's streams after that turn.
 /// That turn is the last one of the sink whose horizon is at most the frame, and ends before the frame is played. Source: own.
@@ -86,8 +87,9 @@ pub fn runs_go_on()
 /// Whatever is done to a world, the frames of an input that are settled as played are consecutive, over all sinks that it
 /// moves to: each stretch begins where the one before it ended, or past that where that one ran on without prebuffering. So
 /// its indices rise: none is settled twice. The stretches settled at a sink are those of the sink's own history, so no turn
-/// is left out. A frame that a flush gives up is never settled, and a sink that stopped may not have played what it settled.
-/// Source: own.
+/// is left out. Afterwards the input's stream is at one place at most, and stands there where the last stretch ended, or
+/// past that where it ran on. A frame that a flush gives up is never settled, and a sink that stopped may not have played
+/// what it settled. Source: own.
 pub fn continuity()
     ensures joined { (header : Header) (doings : List Doing) (i : ℕ) → IsHeader header
         → CanAllBeDone (new_world header) doings
@@ -99,6 +101,10 @@ pub fn continuity()
         → slice_get header.sinks k ≡ Some s
         → stretches_at k (track_by (new_world header) doings i)
         ≡ track_of samples (begun s) (history_over (new_world header) doings k) i }
+    ensures stands { (header : Header) (doings : List Doing) (i : ℕ) → IsHeader header
+        → CanAllBeDone (new_world header) doings
+        → Stands (done_all (new_world header) doings).core (done_all (new_world header) doings).mixers i
+        (last_of None (stretches_of (track_by (new_world header) doings i))) }
 {}
 
 /// Two runs, one after the other, are one run: its world, its output, its effects and its admission. Source: own.
@@ -115,8 +121,11 @@ pub fn runs_join()
         → AreAdmitted w earlier × AreAdmitted (world_by w earlier) later }
 {}
 
-/// The definitions give the output of a small session that was worked by hand. Source: own.
+/// The definitions give the output of a small session, and the track of an input over a small run, that were worked by hand.
+/// Source: own.
 pub fn worked_session()
     ensures admitted { AreAdmitted (new_world small_header) small_events }
     ensures output { output_of small_header small_events ≡ small_output }
+    ensures done { CanAllBeDone small_world small_doings }
+    ensures track { track_by small_world small_doings 3 ≡ small_track }
 {}

@@ -10,3 +10,6 @@ returns-clause-rising c = joining.rising
 
 pub returns-clause-whole : goal.returns-clause-whole
 returns-clause-whole c = tracks.whole
+
+pub returns-clause-stands : goal.returns-clause-stands
+returns-clause-stands c = joining.stands
