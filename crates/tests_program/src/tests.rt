@@ -1,3 +1,4 @@
 mod ends;
 mod faults;
+mod moving;
 mod worlds;

@@ -20,23 +20,31 @@ fn first_header(reader: &mut Reader, source: &mut MemSource) -> Mem<Header>
     }
 }
 
+/// The header at the front of these bytes.
+pub fn header_of(alloc: Global, bytes: Vec<u8>) -> Mem<Header>
+    ensures { IfOk result IsHeader }
+{
+    let mut source = MemSource::new(Text::from_vec(bytes), Calls::none(alloc));
+    first_header(&mut Reader::new(alloc)?, &mut source)
+}
+
 // The header of a session.
 fn header_read(alloc: Global) -> Mem<Header>
     ensures { IfOk result IsHeader }
 {
-    let mut source = MemSource::new(Text::from_vec(session(alloc)?), Calls::none(alloc));
-    first_header(&mut Reader::new(alloc)?, &mut source)
+    header_of(alloc, session(alloc)?)
 }
 
-// The number of effects of an event, and of frames that it consumes.
-fn met(alloc: Global, world: &mut World, event: Event) -> Result<(usize, u32), WorldFault> {
+/// The number of effects of an event, and of frames that it consumes.
+pub fn met(alloc: Global, world: &mut World, event: Event) -> Result<(usize, u32), WorldFault> {
     match world.event(alloc, event) {
         Ok(outcome) => Ok((outcome.effects.as_slice().len(), outcome.frames)),
         Err(fault) => Err(fault),
     }
 }
 
-fn turned(
+/// The same of a turn of the first sink.
+pub fn turned(
     alloc: Global,
     world: &mut World,
     frames: u32,
@@ -46,8 +54,8 @@ fn turned(
     met(alloc, world, Event::Turn { sink, frames, take })
 }
 
-// AUTH of version 13 in its frame, up to the cookie.
-const AUTH: &[u8] =
+/// AUTH of version 13 in its frame, up to the cookie.
+pub const AUTH: &[u8] =
     b"\0\0\x01\x14\xff\xff\xff\xff\0\0\0\0\0\0\0\0\0\0\0\0L\0\0\0\x08L\0\0\0\0L\0\0\0\x0dx\0\0\x01\0";
 
 // CREATE_PLAYBACK_STREAM in S16LE, mono, without prebuffering; a drain and a latency query of it. Each in its frame.
