@@ -49,7 +49,7 @@ use Rattle.px_state.specs.State.{State, goes_on, stream_of, marked_of, is_from}
 use Rattle.px_state.specs.Change.{Change}
 use Rattle.px_state.specs.Effect.{framed, fits, sent, sending, fault_code, fault_place, offset_behind}
 use Rattle.px_state.specs.Outcome.{CoreOutcome, reply_to_asker, sent_all, closed_all, outcome_effects, refused, reply_fits, requested, ended_by, broken_off}
-use Rattle.px_core.specs.Command.{handle, read_answer, is_barred, command_answer, head_answer}
+use Rattle.px_core.specs.Command.{spoken_by, handle, read_answer, is_barred, command_answer, head_answer}
 use Rattle.px_core.specs.Connecting.{ended, ends, swept, sweep_of}
 use Rattle.px_types.specs.declared.ids.InputId.{InputId}
 use Rattle.px_flat.specs.declared.member.Member.{Member}
@@ -147,7 +147,7 @@ read_kind state n c at t (Err OutOfMemory) = idle_kind (Some n)
 
 command_kind : {P : Type 0} (state : State P) (n : ConnId) (c : Connection) (at : ℕ) (packet : List ℕ) (command t : ℕ) → Kind (Some n) (command_answer state c at packet command t)
 command_kind {P} state n c at packet command t =
-    cond_both (is_barred c command) (refused t Access) (read_answer state c at t (meant packet)) (Kind {P = P} (Some n)) (λ e. refused_kind n t Access) (λ e. read_kind state n c at t (meant packet))
+    cond_both (is_barred c command) (refused t Access) (read_answer state c at t (meant (spoken_by c) packet)) (Kind {P = P} (Some n)) (λ e. refused_kind n t Access) (λ e. read_kind state n c at t (meant (spoken_by c) packet))
 
 head_kind : {P : Type 0} (state : State P) (n : ConnId) (c : Connection) (at : ℕ) (packet : List ℕ) (r : Result ((ℕ × ℕ) × Place) TagFault) → Kind (Some n) (head_answer state c at packet r)
 head_kind state n c at packet (Err fault) = broken_off_kind (Some n) c.conn at fault

@@ -40,7 +40,7 @@ use Rattle.px_sinks.specs.Sinks.{named_by}
 use Rattle.px_sinks.proofs.Sinks.{IsThere, named_there}
 use Rattle.px_state.specs.State.{State, is_leaving, goes_on, going, has_index, input_named}
 use Rattle.px_state.specs.Outcome.{CoreOutcome}
-use Rattle.px_core.specs.Command.{create_named, sink_volume, sink_mute, input_volume, input_mute, handle}
+use Rattle.px_core.specs.Command.{spoken_by, create_named, sink_volume, sink_mute, input_volume, input_mute, handle}
 use Rattle.px_core.specs.Consistency.{IsConsistent}
 use Rattle.px_core.specs.HandedOver.{IsGrouped}
 use Rattle.px_core.specs.Missing.{sink_named_in, input_named_in}
@@ -112,8 +112,8 @@ module _ {P : Type 0} (spec_of : P → SampleSpec) (state : State P) (h : IsCons
           let named = named_by state.names state.sinks sink false in
           let is = same named e in
           let group = group_of_sink named target (is_there sink false) is in
-          ap (λ n. is_missing (sink_info {M = Msg P} {G = FlatGroup} n state.groups tag)) is
-          ∙ ap (λ o. is_missing {A = CoreOutcome P} (present o NoEntity >>= λ (own : FlatGroup). Ok (replied (with_sink (reply_to tag) (sink_of target own)) []))) group.1
+          ap (λ n. is_missing (sink_info {M = Msg P} {G = FlatGroup} n state.groups (spoken_by me) tag)) is
+          ∙ ap (λ o. is_missing {A = CoreOutcome P} (present o NoEntity >>= λ (own : FlatGroup). Ok (replied (with_sink (spoken_by me) (reply_to tag) (sink_of target own)) []))) group.1
       by (commands.SinkVolume sink volume) e =
           let named = named_by state.names state.sinks sink false in
           let is = same named e in

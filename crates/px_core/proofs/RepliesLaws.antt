@@ -27,7 +27,7 @@ use Rattle.px_outcome.specs.Handled.{check, present}
 use Rattle.px_outcome.specs.Target.{is_clear, target_of}
 use Rattle.px_names.specs.Clients.{client_on, client_numbered}
 use Rattle.px_names.specs.InputLists.{list_of as list_of_input}
-use Rattle.px_ctl_info.specs.Clients.{SERVER_VERSION, version_in, auth, info_of, connection_with, is_mask}
+use Rattle.px_ctl_info.specs.Clients.{LEAST_VERSION, SERVER_VERSION, version_in, auth, info_of, connection_with, is_mask}
 use Rattle.px_ctl_info.specs.Infos.{sink_of as info_of_sink, input_of as info_of_input, group_on, member_on, sink_info_list, input_info_list}
 use Rattle.px_ctl_info.specs.Properties.{list_of, mode_of, has_keys, name_in}
 use Rattle.px_ctl_info.specs.Sinks.{sink_called, server_of}
@@ -49,7 +49,7 @@ use Rattle.px_ctl_play.specs.Time.{microseconds}
 use Rattle.px_ctl_play.proofs.Passed.{IsCreated, create_passed}
 use Rattle.px_state.specs.State.{State, stream_of, input_named}
 use Rattle.px_state.specs.Outcome.{CoreOutcome, outcome_effects}
-use Rattle.px_core.specs.Command.{default_sink, sink_volume, sink_mute, input_volume, input_mute, handle}
+use Rattle.px_core.specs.Command.{spoken_by, default_sink, sink_volume, sink_mute, input_volume, input_mute, handle}
 use Rattle.px_sinks.specs.Sinks.{rate_of, depth_of, sink_of, named_by, group_named, group_under, targets_of}
 use Rattle.px_core.proofs.HandledLaws.{Each, each_check, each_then, each_by}
 
@@ -75,9 +75,9 @@ pub latency_byte : (tag : ℕ) (fields : LatencyFields) → get_or (latency_repl
 unfolding number
 latency_byte tag fields = refl
 
-pub server_byte : (tag : ℕ) (info : ServerInfo) → get_or (server_reply tag info) 4 0 ≡ 2
+pub server_byte : (version tag : ℕ) (info : ServerInfo) → get_or (server_reply version tag info) 4 0 ≡ 2
 unfolding number
-server_byte tag info = refl
+server_byte version tag info = refl
 
 pub client_byte : (tag : ℕ) (info : ClientInfo) → get_or (with_client (reply_to tag) info) 4 0 ≡ 2
 unfolding number
@@ -92,26 +92,26 @@ pub clients_byte : (tag : ℕ) (infos : List ClientInfo) → get_or (clients_rep
 unfolding number
 clients_byte tag infos = clients_front _ _ _ _ _ _ infos
 
-pub sink_byte : (tag : ℕ) (info : SinkInfo) → get_or (with_sink (reply_to tag) info) 4 0 ≡ 2
+pub sink_byte : (version tag : ℕ) (info : SinkInfo) → get_or (with_sink version (reply_to tag) info) 4 0 ≡ 2
 unfolding number
-sink_byte tag info = refl
+sink_byte version tag info = refl
 
 pub input_byte : (tag : ℕ) (info : InputInfo) → get_or (with_input (reply_to tag) info) 4 0 ≡ 2
 unfolding number
 input_byte tag info = refl
 
 -- more sinks and inputs behind the front of a packet
-sinks_front : (a b c d e : ℕ) (rest : List ℕ) (infos : List SinkInfo) → get_or (fold with_sink (a ∷ b ∷ c ∷ d ∷ e ∷ rest) infos) 4 0 ≡ e
-sinks_front a b c d e rest [] = refl
-sinks_front a b c d e rest (i ∷ infos) = sinks_front a b c d e (with_sink rest i) infos
+sinks_front : (version a b c d e : ℕ) (rest : List ℕ) (infos : List SinkInfo) → get_or (fold (with_sink version) (a ∷ b ∷ c ∷ d ∷ e ∷ rest) infos) 4 0 ≡ e
+sinks_front version a b c d e rest [] = refl
+sinks_front version a b c d e rest (i ∷ infos) = sinks_front version a b c d e (with_sink version rest i) infos
 
 inputs_front : (a b c d e : ℕ) (rest : List ℕ) (infos : List InputInfo) → get_or (fold with_input (a ∷ b ∷ c ∷ d ∷ e ∷ rest) infos) 4 0 ≡ e
 inputs_front a b c d e rest [] = refl
 inputs_front a b c d e rest (i ∷ infos) = inputs_front a b c d e (with_input rest i) infos
 
-pub sinks_byte : (tag : ℕ) (infos : List SinkInfo) → get_or (sinks_reply tag infos) 4 0 ≡ 2
+pub sinks_byte : (version tag : ℕ) (infos : List SinkInfo) → get_or (sinks_reply version tag infos) 4 0 ≡ 2
 unfolding number
-sinks_byte tag infos = sinks_front _ _ _ _ _ _ infos
+sinks_byte version tag infos = sinks_front version _ _ _ _ _ _ infos
 
 pub inputs_byte : (tag : ℕ) (infos : List InputInfo) → get_or (inputs_reply tag infos) 4 0 ≡ 2
 unfolding number
@@ -164,7 +164,7 @@ attributes_replies P (Some x) depth rate wanted t =
 pub auth_replies : (P : Type 0) (names : Naming) (me : Connection) (t version : ℕ) (cookie : List ℕ) → Each (Replies {P = P}) (auth names me t version cookie)
 auth_replies P names me t version cookie =
     each_check (Replies {P = P}) (not (is_some me.version)) BadState _
-    (each_check (Replies {P = P}) (nat_le SERVER_VERSION (version_in version)) Version _
+    (each_check (Replies {P = P}) (nat_le LEAST_VERSION (version_in version)) Version _
     (each_check (Replies {P = P}) (same_text cookie names.cookie) Access _
     (a_reply (reply_to t ++ number SERVER_VERSION) refl (reply_byte t (number SERVER_VERSION)))))
 
@@ -236,7 +236,7 @@ handle_replies {P} state me t (commands.Attributes stream asked adjust_latency e
 handle_replies state me t (commands.EmptyList n) = a_reply (reply_to t) refl (plain_byte t)
 handle_replies {P} state me t (commands.LookupSink name) = each_then (Replies {P = P}) (sink_called state.names name) _ (λ sink. a_reply (reply_to t ++ number sink.0) refl (reply_byte t (number sink.0)))
 handle_replies {P} state me t (commands.DefaultSink name) = each_then (Replies {P = P}) (sink_called state.names name) _ (λ sink. a_reply (reply_to t) refl (plain_byte t))
-handle_replies {P} state me t commands.ServerInfo = each_then (Replies {P = P}) (present (target_of (default_sink state)) NoEntity) _ (λ sink. a_reply (server_reply t (server_of sink)) refl (server_byte t (server_of sink)))
+handle_replies {P} state me t commands.ServerInfo = each_then (Replies {P = P}) (present (target_of (default_sink state)) NoEntity) _ (λ sink. a_reply (server_reply (spoken_by me) t (server_of sink)) refl (server_byte (spoken_by me) t (server_of sink)))
 handle_replies {P} state me t (commands.ClientInfo client) =
     each_then (Replies {P = P}) (present (client_numbered state.names.clients client) NoEntity) _ (λ found. a_reply (with_client (reply_to t) (info_of found)) refl (client_byte t (info_of found)))
 handle_replies state me t commands.ClientInfoList = a_reply (clients_reply t (map info_of state.names.clients)) refl (clients_byte t (map info_of state.names.clients))
@@ -247,8 +247,8 @@ handle_replies {P} state me t (commands.SinkInfo sink) =
     each_check (Replies {P = P}) (is_clear (named_by state.names state.sinks sink false)) Invalid _
     (each_then (Replies {P = P}) (present (target_of (named_by state.names state.sinks sink false)) NoEntity) _
     (λ found. each_then (Replies {P = P}) (present (group_on state.groups found) NoEntity) _
-    (λ group. a_reply (with_sink (reply_to t) (info_of_sink found group)) refl (sink_byte t (info_of_sink found group)))))
-handle_replies state me t commands.SinkInfoList = a_reply (sinks_reply t (sink_info_list state.groups (targets_of state.sinks))) refl (sinks_byte t (sink_info_list state.groups (targets_of state.sinks)))
+    (λ group. a_reply (with_sink (spoken_by me) (reply_to t) (info_of_sink found group)) refl (sink_byte (spoken_by me) t (info_of_sink found group)))))
+handle_replies state me t commands.SinkInfoList = a_reply (sinks_reply (spoken_by me) t (sink_info_list state.groups (targets_of state.sinks))) refl (sinks_byte (spoken_by me) t (sink_info_list state.groups (targets_of state.sinks)))
 handle_replies {P} state me t (commands.InputInfo input) =
     each_then (Replies {P = P}) (present (input_named state.inputs input) NoEntity) _
     (λ x. each_then (Replies {P = P}) (present (member_on state.groups x) NoEntity) _

@@ -38,7 +38,7 @@ use Rattle.px_outcome.specs.declared.input.Input.{Input}
 use Rattle.px_outcome.specs.Outcome.{idle, notifying}
 use Rattle.px_outcome.specs.Handled.{Handled, check, present}
 use Rattle.px_outcome.specs.Target.{is_clear, target_of}
-use Rattle.px_ctl_info.specs.Clients.{SERVER_VERSION, version_in, auth, connection_with, is_mask}
+use Rattle.px_ctl_info.specs.Clients.{LEAST_VERSION, version_in, auth, connection_with, is_mask}
 use Rattle.px_ctl_info.specs.Properties.{list_of, mode_of, has_keys, name_in}
 use Rattle.px_ctl_info.specs.Infos.{group_on, member_on}
 use Rattle.px_ctl_info.specs.Sinks.{sink_called}
@@ -51,7 +51,7 @@ use Rattle.px_types.specs.declared.ids.InputId.{InputId}
 use Rattle.px_outcome.specs.declared.input.Standing.{Standing}
 use Rattle.px_outcome.specs.declared.input.Standing.TheVariants.{Settled, Moving, Leaving}
 use Rattle.px_state.specs.State.{State, new_state, goes_on, connection_of, input_named, stream_of}
-use Rattle.px_core.specs.Command.{default_sink, handle, read_answer, is_barred, command_answer, head_answer}
+use Rattle.px_core.specs.Command.{spoken_by, default_sink, handle, read_answer, is_barred, command_answer, head_answer}
 use Rattle.px_core.specs.Connecting.{is_full, new_connection, joined, connected, ended, going_on}
 use Rattle.px_core.specs.Notice.{is_on, input_on, owner_of, notified_of, left_of, arrival_at, arrived_with, given_up_by, given_up, notice_answer}
 use Rattle.px_core.specs.Parcels.{Brought, moved_stream, given_by, given_in}
@@ -106,7 +106,7 @@ new_keeps {P} spec_of header h = record {
 auth_lawful : {P : Type 0} (state : State P) (names : Naming) (me : Connection) (tag version : ℕ) (cookie : List ℕ) → Each (IsLawful state) (auth names me tag version cookie)
 auth_lawful {P} state names me tag version cookie =
     each_check (IsLawful state) (not (is_some me.version)) BadState _
-    (each_check (IsLawful state) (nat_le SERVER_VERSION (version_in version)) Version _
+    (each_check (IsLawful state) (nat_le LEAST_VERSION (version_in version)) Version _
     (each_check (IsLawful state) (same_text cookie names.cookie) Access _ (tt, tt)))
 
 handle_lawful : {P : Type 0} (spec_of : P → SampleSpec) (state : State P) → IsConsistent spec_of state → (me : Connection) → going_on state.connections me.conn ≡ Some me → (tag : ℕ) (command : Command) → Each (IsLawful state) (handle state me tag command)
@@ -182,8 +182,8 @@ read_lawful spec_of state h c e at tag (Err OutOfMemory) = tt
 
 command_lawful : {P : Type 0} (spec_of : P → SampleSpec) (state : State P) → IsConsistent spec_of state → (c : Connection) → going_on state.connections c.conn ≡ Some c → (at : ℕ) (packet : List ℕ) (command tag : ℕ) → IsLawful state (command_answer state c at packet command tag)
 command_lawful spec_of state h c e at packet command tag =
-    cond_both (is_barred c command) (refused tag Access) (read_answer state c at tag (meant packet)) (IsLawful state)
-    (λ f. tt) (λ f. read_lawful spec_of state h c e at tag (meant packet))
+    cond_both (is_barred c command) (refused tag Access) (read_answer state c at tag (meant (spoken_by c) packet)) (IsLawful state)
+    (λ f. tt) (λ f. read_lawful spec_of state h c e at tag (meant (spoken_by c) packet))
 
 pub head_lawful : {P : Type 0} (spec_of : P → SampleSpec) (state : State P) → IsConsistent spec_of state → (c : Connection) → going_on state.connections c.conn ≡ Some c → (at : ℕ) (packet : List ℕ) (r : Result ((ℕ × ℕ) × Place) TagFault) → IsLawful state (head_answer state c at packet r)
 head_lawful spec_of state h c e at packet (Err fault) = broken_off_lawful state c e at fault

@@ -1,6 +1,6 @@
 -- The outcome of a control packet, and the order in which it is refused (PulseAudio: `pa_pdispatch_run` and the handlers of
 -- pulsecore/protocol-native.c; the order is own).
-use Rattle.std.specs.Prelude.{ℕ, Bool, true, false, not, cond, ◌&&◌, nat_eq, List, is_some, Option, None, Result, Ok, Err, ⊤}
+use Rattle.std.specs.Prelude.{ℕ, Bool, true, false, not, cond, ◌&&◌, nat_eq, List, is_some, unwrap_or, Option, None, Result, Ok, Err, ⊤}
 use Rattle.px_types.specs.declared.error_code.ErrorCode.TheVariants.{Access, Command as UnknownCommand, NotSupported}
 use Rattle.px_tag.specs.declared.fault.TagFault.{TagFault}
 use Rattle.px_tag.specs.Place.{Place, start_of}
@@ -18,7 +18,7 @@ use Rattle.px_outcome.specs.declared.input.Input.{Input}
 use Rattle.px_outcome.specs.declared.target.Named.{Named}
 use Rattle.px_outcome.specs.Outcome.{idle}
 use Rattle.px_outcome.specs.Handled.{Handled}
-use Rattle.px_ctl_info.specs.Clients.{auth, set_client_name, client_info, client_infos, connection_with, kill_client, subscribe}
+use Rattle.px_ctl_info.specs.Clients.{LEAST_VERSION, auth, set_client_name, client_info, client_infos, connection_with, kill_client, subscribe}
 use Rattle.px_ctl_info.specs.Infos.{sink_info, sink_infos, input_info, input_infos}
 use Rattle.px_ctl_info.specs.Lists.{empty_list}
 use Rattle.px_ctl_info.specs.Properties.{update_client, remove_client, update_stream, remove_stream, set_stream_name}
@@ -39,6 +39,10 @@ use Rattle.px_state.specs.Outcome.{CoreOutcome, refused, requested, broken_off}
 use Rattle.px_sinks.specs.Sinks.{rate_of, depth_of, sink_of, named_as, named_by, group_named, group_under, targets_of}
 
 -- ---- the commands
+
+-- the version by which a connection's commands are read and answered; before AUTH, whose fields are the same at each version, the least
+abbrev pub spoken_by : Connection → ℕ
+spoken_by c = unwrap_or c.version LEAST_VERSION
 
 abbrev pub AUTH : ℕ
 AUTH = 8
@@ -88,9 +92,9 @@ handle state me tag (commands.Prebuf stream) = prebuf (stream_of state.inputs me
 handle state me tag (commands.Attributes stream asked adjust_latency early_requests) = new_attributes state (stream_of state.inputs me.conn stream) asked tag
 handle state me tag (commands.EmptyList number) = empty_list tag
 handle state me tag (commands.LookupSink name) = lookup_sink state.names tag name
-handle state me tag commands.ServerInfo = server_info (default_sink state) tag
-handle state me tag (commands.SinkInfo sink) = sink_info (named_by state.names state.sinks sink false) state.groups tag
-handle state me tag commands.SinkInfoList = sink_infos (targets_of state.sinks) state.groups tag
+handle state me tag commands.ServerInfo = server_info (default_sink state) (spoken_by me) tag
+handle state me tag (commands.SinkInfo sink) = sink_info (named_by state.names state.sinks sink false) state.groups (spoken_by me) tag
+handle state me tag commands.SinkInfoList = sink_infos (targets_of state.sinks) state.groups (spoken_by me) tag
 handle state me tag (commands.ClientInfo client) = client_info (client_numbered state.names.clients client) tag
 handle state me tag commands.ClientInfoList = client_infos state.names.clients tag
 handle state me tag (commands.InputInfo input) = input_info (input_named state.inputs input) state.groups state.lists tag
@@ -194,7 +198,7 @@ is_barred c command = not (is_some c.version) && not (nat_eq command AUTH)
 
 abbrev pub command_answer : {P : Type 0} → State P → Connection → ℕ → List ℕ → ℕ → ℕ → CoreOutcome P
 command_answer state c at packet command tag =
-    cond (is_barred c command) (refused tag Access) (read_answer state c at tag (meant packet))
+    cond (is_barred c command) (refused tag Access) (read_answer state c at tag (meant (spoken_by c) packet))
 
 abbrev pub head_answer : {P : Type 0} → State P → Connection → ℕ → List ℕ → Result ((ℕ × ℕ) × Place) TagFault → CoreOutcome P
 head_answer state c at packet (Err fault) = broken_off c.conn at fault

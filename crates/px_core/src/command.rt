@@ -6,7 +6,7 @@ ghost use Rattle.std.specs.List.{AllByRecursion};
 ghost use Rattle.px_cmd.specs.Meant.{meant};
 ghost use Rattle.px_header.specs.HeaderRules.{AreSinks};
 ghost use Rattle.px_state.specs.Tables.{state_of};
-ghost use Rattle.px_core.specs.Command.{is_barred, read_answer, command_answer, packet_answer};
+ghost use Rattle.px_core.specs.Command.{spoken_by, is_barred, read_answer, command_answer, packet_answer};
 ghost use Rattle.px_core.specs.Grouped.{AreGrouped};
 ghost use Rattle.px_core.specs.Consistency.{IsInput};
 
@@ -17,9 +17,17 @@ use px_flat::Group;
 use px_msg::Msg;
 use px_outcome::{Connection, StepOutcome};
 use px_state::{Tables, broken_off, refused, requested};
-use px_types::limits::PROTOCOL_VERSION;
+use px_types::limits::LEAST_PROTOCOL_VERSION;
 use px_types::{ErrorCode, Mem, NoMemory};
 use std::alloc::Global;
+
+/// The version by which a connection's commands are read and answered; before AUTH, whose fields are the same at each version, the least. Takes
+/// no memory.
+pub(crate) fn spoken_by(c: &Connection) -> u16
+    ensures { result ≡ spoken_by c.now }
+{
+    c.version.unwrap_or(LEAST_PROTOCOL_VERSION)
+}
 
 // Whether the connection hasn't authenticated yet, and the command isn't AUTH.
 fn is_barred(c: &Connection, command: u32) -> bool
@@ -40,9 +48,9 @@ fn read_answer<P: Drop>(
     requires sinks { AreSinks [] tables.now.sinks }
     requires inputs { AllByRecursion (IsInput tables.now.sinks tables.now.inputs_made) tables.now.inputs.items }
     requires groups { AreGrouped [] tables.now.sinks tables.now.inputs.items tables.now.groups.items }
-    ensures { IfOk result (λ outcome. outcome ≡ read_answer (state_of tables.now) c.now at tag (meant packet.now)) }
+    ensures { IfOk result (λ outcome. outcome ≡ read_answer (state_of tables.now) c.now at tag (meant (spoken_by c.now) packet.now)) }
 {
-    match read_command(alloc, packet, PROTOCOL_VERSION) {
+    match read_command(alloc, packet, spoken_by(c)) {
         Ok(command) => requested(alloc, tag, handle(alloc, tables, c, tag, command)),
         Err(CmdFault::Protocol(fault)) => broken_off(alloc, c.conn, at, fault),
         Err(CmdFault::Unknown(_)) => refused(alloc, tag, ErrorCode::Command),

@@ -16,6 +16,7 @@ ghost use Rattle.px_core.specs.Command.{IsOnPlaying, IsOnStream, IsOnProperties,
 ghost use Rattle.px_core.specs.Grouped.{AreGrouped};
 ghost use Rattle.px_core.specs.Consistency.{IsInput};
 
+use crate::command::spoken_by;
 use crate::found::copied;
 use crate::infos::server;
 use crate::sink_handlers::{handle_on_inputs, handle_on_sinks};
@@ -233,18 +234,19 @@ fn handle_client<P: Drop>(
 fn handle_server<P: Drop>(
     alloc: Global,
     tables: &Tables<P>,
+    me: &Connection,
     tag: u32,
     command: &Command,
 ) -> Result<StepOutcome<Msg<P>, Group>, Refusal>
     requires sinks { AreSinks [] tables.now.sinks }
     requires family { IsOnServer command.now }
-    ensures { (me : Connection) → HandledAs result (handle (state_of tables.now) me tag command.now) }
+    ensures { HandledAs result (handle (state_of tables.now) me.now tag command.now) }
 {
     match command {
         Command::EmptyList { .. } => empty_list(alloc, tag),
         Command::LookupSink { name } => lookup_sink(alloc, &tables.names, tag, text_of(name)),
         Command::DefaultSink { name } => set_default_sink(alloc, &tables.names, tag, text_of(name)),
-        Command::ServerInfo => server(alloc, tables, tag),
+        Command::ServerInfo => server(alloc, tables, spoken_by(me), tag),
         _ => unreachable!(),
     }
 }
@@ -285,11 +287,11 @@ fn handle_read<P: Drop>(
         Command::EmptyList { .. }
         | Command::LookupSink { .. }
         | Command::DefaultSink { .. }
-        | Command::ServerInfo => handle_server(alloc, tables, tag, command),
+        | Command::ServerInfo => handle_server(alloc, tables, me, tag, command),
         Command::SinkInfo { .. }
         | Command::SinkInfoList
         | Command::SinkVolume { .. }
-        | Command::SinkMute { .. } => handle_on_sinks(alloc, tables, tag, command),
+        | Command::SinkMute { .. } => handle_on_sinks(alloc, tables, me, tag, command),
         Command::InputInfo { .. }
         | Command::InputInfoList
         | Command::KillInput { .. }

@@ -20,34 +20,35 @@ use px_msg::Msg;
 use px_outcome::{Input, Refusal, StepOutcome};
 use px_sinks::{default_sink, named_by, targets_of};
 use px_state::Tables;
-use px_types::limits::PROTOCOL_VERSION;
 use std::alloc::Global;
 
-/// The named sink.
+/// The named sink, as a connection of this version is told.
 pub(crate) fn handle_sink_info<P: Drop>(
     alloc: Global,
     tables: &Tables<P>,
     sink: &SinkRef,
+    version: u16,
     tag: u32,
 ) -> Result<StepOutcome<Msg<P>, Group>, Refusal>
     requires { AreSinks [] tables.now.sinks }
-    ensures { HandledAs result (sink_info (named_by tables.now.names tables.now.sinks sink.now false) tables.now.groups.items tag) }
+    ensures { HandledAs result (sink_info (named_by tables.now.names tables.now.sinks sink.now false) tables.now.groups.items version tag) }
 {
     let named = named_by(alloc, &tables.names, tables.sinks.as_slice(), sink, false)?;
-    sink_info(alloc, named, &tables.groups, tag)
+    sink_info(alloc, named, &tables.groups, version, tag)
 }
 
-/// All sinks.
+/// All sinks, as a connection of this version is told.
 pub(crate) fn handle_sink_infos<P: Drop>(
     alloc: Global,
     tables: &Tables<P>,
+    version: u16,
     tag: u32,
 ) -> Result<StepOutcome<Msg<P>, Group>, Refusal>
     requires { AreSinks [] tables.now.sinks }
-    ensures { HandledAs result (sink_infos (targets_of tables.now.sinks) tables.now.groups.items tag) }
+    ensures { HandledAs result (sink_infos (targets_of tables.now.sinks) tables.now.groups.items version tag) }
 {
     let sinks = targets_of(alloc, tables.sinks.as_slice())?;
-    sink_infos(alloc, &sinks, &tables.groups, tag)
+    sink_infos(alloc, &sinks, &tables.groups, version, tag)
 }
 
 // The input with an index, where it is live.
@@ -102,15 +103,16 @@ pub(crate) fn handle_input_infos<P: Drop>(
     )
 }
 
-/// The server's info.
+/// The server's info, as a connection of this version is told.
 pub(crate) fn server<P: Drop>(
     alloc: Global,
     tables: &Tables<P>,
+    version: u16,
     tag: u32,
 ) -> Result<StepOutcome<Msg<P>, Group>, Refusal>
     requires { AreSinks [] tables.now.sinks }
-    ensures { HandledAs result (server_info (default_sink (state_of tables.now)) tag) }
+    ensures { HandledAs result (server_info (default_sink (state_of tables.now)) version tag) }
 {
     let named = default_sink(alloc, &tables.names, tables.sinks.as_slice())?;
-    server_info(alloc, named, tag, PROTOCOL_VERSION)
+    server_info(alloc, named, tag, version)
 }

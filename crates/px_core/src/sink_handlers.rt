@@ -12,6 +12,7 @@ ghost use Rattle.px_state.specs.Tables.{state_of};
 ghost use Rattle.px_core.specs.Command.{IsOnInputs, IsOnSinks, killed_input, handle};
 ghost use Rattle.px_core.specs.Consistency.{IsInput};
 
+use crate::command::spoken_by;
 use crate::infos::{handle_input_info, handle_input_infos, handle_sink_info, handle_sink_infos};
 use crate::notice::owner_of;
 use crate::volumes::{input_mute, input_volume, sink_mute, sink_volume};
@@ -19,7 +20,7 @@ use px_cmd::{Command, SinkRef};
 use px_ctl_play::{kill_input, move_input};
 use px_flat::Group;
 use px_msg::Msg;
-use px_outcome::{Input, Refusal, StepOutcome};
+use px_outcome::{Connection, Input, Refusal, StepOutcome};
 use px_sinks::named_by;
 use px_state::Tables;
 use std::alloc::Global;
@@ -57,16 +58,17 @@ fn killed_input<P: Drop>(
 pub(crate) fn handle_on_sinks<P: Drop>(
     alloc: Global,
     tables: &Tables<P>,
+    me: &Connection,
     tag: u32,
     command: &Command,
 ) -> Result<StepOutcome<Msg<P>, Group>, Refusal>
     requires sinks { AreSinks [] tables.now.sinks }
     requires family { IsOnSinks command.now }
-    ensures { (me : Connection) → HandledAs result (handle (state_of tables.now) me tag command.now) }
+    ensures { HandledAs result (handle (state_of tables.now) me.now tag command.now) }
 {
     match command {
-        Command::SinkInfo { sink } => handle_sink_info(alloc, tables, sink, tag),
-        Command::SinkInfoList => handle_sink_infos(alloc, tables, tag),
+        Command::SinkInfo { sink } => handle_sink_info(alloc, tables, sink, spoken_by(me), tag),
+        Command::SinkInfoList => handle_sink_infos(alloc, tables, spoken_by(me), tag),
         Command::SinkVolume { sink, volume } => sink_volume(alloc, tables, sink, volume, tag),
         Command::SinkMute { sink, on } => sink_mute(alloc, tables, sink, *on, tag),
         _ => unreachable!(),
