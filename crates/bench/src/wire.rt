@@ -2,13 +2,13 @@
 use px_cmd::{Command, read_command};
 use px_reply::{Created, created};
 use px_tag::{RawMap, RawSpec};
-use px_types::limits::PROTOCOL_VERSION;
+use px_types::limits::LEAST_PROTOCOL_VERSION;
 use px_types::{Mem, Text};
 use std::alloc::Global;
 
-// Whether the packet is a CREATE_PLAYBACK_STREAM.
+// Whether the packet is a CREATE_PLAYBACK_STREAM of version 13.
 fn is_create(alloc: Global, packet: &[u8]) -> bool {
-    let read = read_command(alloc, packet, PROTOCOL_VERSION);
+    let read = read_command(alloc, packet, LEAST_PROTOCOL_VERSION);
     let is_create = matches!(&read, Ok(Command::Create(_)));
     drop(read);
     is_create

@@ -69,8 +69,8 @@ ended : (size : ℕ) → end_at (record { size = size; rest = [] }) ≡ Ok tt
 unfolding end_at
 ended size = refl
 
-pub packet_again : (command tag : ℕ) (fields : List Field) → IsCommand command tag fields → meaning (packet_of command tag fields) ≡ Ok (command, fields)
-packet_again command tag fields is =
+pub packet_again : (version command tag : ℕ) (fields : List Field) → IsCommand version command tag fields → meaning version (packet_of command tag fields) ≡ Ok (command, fields)
+packet_again version command tag fields is =
     let cells = flat_map spelling fields in
     let packet = packet_of command tag fields in
     let size = length packet in
@@ -78,8 +78,8 @@ packet_again command tag fields is =
     let after : Place = record { size = size; rest = [] } in
     let front : head_at (start_of packet) ≡ Ok ((command, tag), behind) = head_again command tag size cells (omega (arith, is.known)) is.tagged in
     let read : fields_at (map kind_of fields) behind ≡ Ok (fields, after) = ap (λ (r : List ℕ). fields_at (map kind_of fields) (record { size = size; rest = r })) (sym (append-nil cells)) ∙ fields_again fields size [] is.each in
-    let took : taken (kinds_of command) command behind ≡ Ok (fields, after) = rw (is.kinds, read) refl in
-    means packet command tag behind front is.known fields after took (ended size)
+    let took : taken (kinds_of version command) command behind ≡ Ok (fields, after) = rw (is.kinds, read) refl in
+    means version packet command tag behind front is.known fields after took (ended size)
 
 -- ---- a packet that is spelled in any way
 
@@ -105,16 +105,16 @@ fields_read (field ∷ fields) cells size behind each e =
     let regrouped : cells ++ behind ≡ e.0 ++ (e.1 ++ behind) = ap (λ (x : List ℕ). x ++ behind) e.4 ∙ append_assoc e.0 e.1 behind in
     ap (λ (r : List ℕ). fields_at (map kind_of (field ∷ fields)) (record { size = size; rest = r })) regrouped ∙ rw (field_read field e.0 size (e.1 ++ behind) each.0 e.2, fields_read fields e.1 size behind each.1 e.3) refl
 
-spelled_again : (cells : List ℕ) (command tag : ℕ) (fields : List Field) → command ≤ last_command → tag < 2 ^ 32 → kinds_of command ≡ Some (map kind_of fields) → AllByRecursion IsField fields → AreSpelledAs fields cells → meaning (number command ++ number tag ++ cells) ≡ Ok (command, fields)
-spelled_again cells command tag fields known tagged kinds each spelled =
+spelled_again : (version : ℕ) (cells : List ℕ) (command tag : ℕ) (fields : List Field) → command ≤ last_command → tag < 2 ^ 32 → kinds_of version command ≡ Some (map kind_of fields) → AllByRecursion IsField fields → AreSpelledAs fields cells → meaning version (number command ++ number tag ++ cells) ≡ Ok (command, fields)
+spelled_again version cells command tag fields known tagged kinds each spelled =
     let packet = number command ++ number tag ++ cells in
     let size = length packet in
     let behind : Place = record { size = size; rest = cells } in
     let after : Place = record { size = size; rest = [] } in
     let front : head_at (start_of packet) ≡ Ok ((command, tag), behind) = head_again command tag size cells (omega (arith, known)) tagged in
     let read : fields_at (map kind_of fields) behind ≡ Ok (fields, after) = ap (λ (r : List ℕ). fields_at (map kind_of fields) (record { size = size; rest = r })) (sym (append-nil cells)) ∙ fields_read fields cells size [] each spelled in
-    let took : taken (kinds_of command) command behind ≡ Ok (fields, after) = rw (kinds, read) refl in
-    means packet command tag behind front known fields after took (ended size)
+    let took : taken (kinds_of version command) command behind ≡ Ok (fields, after) = rw (kinds, read) refl in
+    means version packet command tag behind front known fields after took (ended size)
 
-pub packet_read : (packet : List ℕ) (command : ℕ) (fields : List Field) → IsPacketOf packet command fields → meaning packet ≡ Ok (command, fields)
-packet_read packet command fields is = ap meaning is.whole ∙ spelled_again is.cells command is.tag fields is.known is.tagged is.kinds is.each is.spelled
+pub packet_read : (version : ℕ) (packet : List ℕ) (command : ℕ) (fields : List Field) → IsPacketOf version packet command fields → meaning version packet ≡ Ok (command, fields)
+packet_read version packet command fields is = ap (meaning version) is.whole ∙ spelled_again version is.cells command is.tag fields is.known is.tagged is.kinds is.each is.spelled

@@ -121,9 +121,9 @@ fields_found (kind ∷ kinds) place fields after fits e =
 
 -- ---- the packet
 
-meant_ok : (front : Result ((ℕ × ℕ) × Place) TagFault) (command : ℕ) (fields : List Field) → meant_behind front ≡ Ok (command, fields) → (head : (ℕ × ℕ) × Place) × (front ≡ Ok head) × (with_number head.0.0 (command_at head.0.0 head.1) ≡ Ok (command, fields))
-meant_ok (Ok head) command fields e = (head, refl, e)
-meant_ok (Err fault) command fields e = absurd cc
+meant_ok : (version : ℕ) (front : Result ((ℕ × ℕ) × Place) TagFault) (command : ℕ) (fields : List Field) → meant_behind version front ≡ Ok (command, fields) → (head : (ℕ × ℕ) × Place) × (front ≡ Ok head) × (with_number head.0.0 (command_at version head.0.0 head.1) ≡ Ok (command, fields))
+meant_ok version (Ok head) command fields e = (head, refl, e)
+meant_ok version (Err fault) command fields e = absurd cc
 
 abbrev meant : ℕ × List Field → Result (ℕ × List Field) CmdFault
 meant m = Ok m
@@ -149,10 +149,10 @@ choice_ok : (above : Bool) (fault : CmdFault) (read : Result (List Field) CmdFau
 choice_ok true fault read fields e = absurd cc
 choice_ok false fault read fields e = (refl, e)
 
-command_ok : (command : ℕ) (place : Place) (fields : List Field) → command_at command place ≡ Ok fields → (command ≤ 104) × (fields_or (kinds_of command) command place ≡ Ok fields)
+command_ok : (version command : ℕ) (place : Place) (fields : List Field) → command_at version command place ≡ Ok fields → (command ≤ 104) × (fields_or (kinds_of version command) command place ≡ Ok fields)
 unfolding command_at
-command_ok command place fields e =
-    let g = choice_ok (ltb 104 command) (Unknown command) (fields_or (kinds_of command) command place) fields e in
+command_ok version command place fields e =
+    let g = choice_ok (ltb 104 command) (Unknown command) (fields_or (kinds_of version command) command place) fields e in
     (ltb-false _ _ g.0, g.1)
 
 end_found : (place : Place) (nothing : Unit) → end_at place ≡ Ok nothing → place.rest ≡ []
@@ -171,13 +171,13 @@ head_found place head behind fits e =
     let p : (ℕ × ℕ) × Place = ((a.0.0, b.0.0), b.0.1) in
     subst (λ (x : (ℕ × ℕ) × Place). Stands (number x.0.0 ++ number x.0.1) place x.1 × (x.0.1 < 2 ^ 32)) (ok_is p (head, behind) b.2) (Stands-then (number a.0.0) (number b.0.0) place a.0.1 b.0.1 one.0 two.0, two.1)
 
-pub packet_found : (packet : List ℕ) (command : ℕ) (fields : List Field) → AreBytes packet → meaning packet ≡ Ok (command, fields) → IsPacketOf packet command fields
+pub packet_found : (version : ℕ) (packet : List ℕ) (command : ℕ) (fields : List Field) → AreBytes packet → meaning version packet ≡ Ok (command, fields) → IsPacketOf version packet command fields
 unfolding meaning
-packet_found packet command fields fits e =
-    let m = meant_ok (head_at (start_of packet)) command fields e in
-    let w = with_ok m.0.0.0 (command_at m.0.0.0 m.0.1) command fields m.2 in
-    let c = command_ok m.0.0.0 m.0.1 fields w.1 in
-    let k = or_ok (kinds_of m.0.0.0) m.0.0.0 m.0.1 fields c.1 in
+packet_found version packet command fields fits e =
+    let m = meant_ok version (head_at (start_of packet)) command fields e in
+    let w = with_ok m.0.0.0 (command_at version m.0.0.0 m.0.1) command fields m.2 in
+    let c = command_ok version m.0.0.0 m.0.1 fields w.1 in
+    let k = or_ok (kinds_of version m.0.0.0) m.0.0.0 m.0.1 fields c.1 in
     let r = bind_ok (fields_at k.0 m.0.1) (λ read. end_at read.1 >>= λ nothing. Ok read.0) fields k.2 in
     let n = bind_ok (end_at r.0.1) (λ nothing. Ok r.0.0) fields r.2 in
     let fields_are : r.0.0 ≡ fields = ok_is r.0.0 fields n.2 in
@@ -187,6 +187,6 @@ packet_found packet command fields fits e =
     let none : r.0.1.rest ≡ [] = end_found r.0.1 n.0 n.1 in
     let cells_only : found.1 ++ r.0.1.rest ≡ found.1 = ap (λ (x : List ℕ). found.1 ++ x) none ∙ append-nil found.1 in
     let whole : packet ≡ number m.0.0.0 ++ number m.0.0.1 ++ found.1 = all ∙ ap (λ (x : List ℕ). (number m.0.0.0 ++ number m.0.0.1) ++ x) cells_only in
-    let made : IsPacketOf packet m.0.0.0 r.0.0 = record { tag = m.0.0.1; cells = found.1; known = c.0; tagged = front.1; kinds = k.1 ∙ ap (λ (ks : List Kind). Some ks) found.0; each = found.4; spelled = found.2; whole = whole } in
-    let renamed : IsPacketOf packet command r.0.0 = subst (λ (x : ℕ). IsPacketOf packet x r.0.0) w.0 made in
-    subst (λ (x : List Field). IsPacketOf packet command x) fields_are renamed
+    let made : IsPacketOf version packet m.0.0.0 r.0.0 = record { tag = m.0.0.1; cells = found.1; known = c.0; tagged = front.1; kinds = k.1 ∙ ap (λ (ks : List Kind). Some ks) found.0; each = found.4; spelled = found.2; whole = whole } in
+    let renamed : IsPacketOf version packet command r.0.0 = subst (λ (x : ℕ). IsPacketOf version packet x r.0.0) w.0 made in
+    subst (λ (x : List Field). IsPacketOf version packet command x) fields_are renamed

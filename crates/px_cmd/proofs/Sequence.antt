@@ -1,5 +1,5 @@
 -- Some fields, and then others.
-use Rattle.std.proofs.Common.{◌≡◌, List, [], ◌∷◌, ◌++◌, Result, Ok, Err, refl, sym, ap, ◌∙◌}
+use Rattle.std.proofs.Common.{◌≡◌, ℕ, List, [], ◌∷◌, ◌++◌, Result, Ok, Err, refl, sym, ap, ◌∙◌}
 use Rattle.px_tag.specs.declared.fault.TagFault.{TagFault}
 use Rattle.px_tag.specs.Place.{Place, ◌>>=◌}
 use Rattle.px_tag.specs.PropList.{Property}
@@ -7,7 +7,7 @@ use Rattle.px_tag.specs.Reading.{proplist_at}
 use Rattle.px_cmd.specs.declared.fault.CmdFault.{CmdFault}
 use Rattle.px_cmd.specs.declared.fault.CmdFault.TheVariants.{Protocol, Unknown, Unsupported, NoMemory}
 use Rattle.px_cmd.specs.Field.{Kind, Field, Properties, field_at, fields_at, properties}
-use Rattle.px_cmd.specs.Table.{create_kinds}
+use Rattle.px_cmd.specs.Table.{create_kinds, create_later}
 use Rattle.px_cmd.specs.Create.{shape_kinds, buffering_kinds, matching_kinds, playing_kinds, manner_kinds}
 use Rattle.px_cmd.specs.Packet.{Fails}
 
@@ -72,9 +72,6 @@ last_kinds = properties ∷ []
 abbrev from_playing : List Kind
 from_playing = playing_kinds ++ last_kinds
 
-abbrev from_buffering : List Kind
-from_buffering = buffering_kinds ++ manner_kinds
-
 list_fails : (place : Place) (fault : CmdFault) → Fails fault (proplist_at place) → Fails fault (fields_at last_kinds place)
 list_fails place (Protocol fault) e = rw e refl
 list_fails place (Unknown command) e = e
@@ -99,16 +96,39 @@ module _ (place : Place) where
           fields_then matching_kinds from_playing place matching a one
           ∙ ap (behind matching) (fields_then playing_kinds last_kinds a playing b two ∙ ap (behind playing) last)
 
-  pub create_fails_1 : (fault : CmdFault) → Fails fault (fields_at shape_kinds place) → Fails fault (fields_at create_kinds place)
+module _ (version : ℕ) (place : Place) where
+  abbrev later_kinds : List Kind
+  later_kinds = create_later version
+
+  abbrev from_manner : List Kind
+  from_manner = manner_kinds ++ later_kinds
+
+  abbrev from_buffering : List Kind
+  from_buffering = buffering_kinds ++ from_manner
+
+  abbrev whole : Result (List Field × Place) TagFault
+  whole = fields_at (create_kinds ++ create_later version) place
+
+  pub create_fails_1 : (fault : CmdFault) → Fails fault (fields_at shape_kinds place) → Fails fault whole
   create_fails_1 fault e = fails_first shape_kinds from_buffering place fault e
 
   module _ (shape : List Field) (a : Place) (one : fields_at shape_kinds place ≡ Ok (shape, a)) where
-    pub create_fails_2 : (fault : CmdFault) → Fails fault (fields_at buffering_kinds a) → Fails fault (fields_at create_kinds place)
-    create_fails_2 fault e = fails_then shape_kinds from_buffering place shape a fault one (fails_first buffering_kinds manner_kinds a fault e)
+    pub create_fails_2 : (fault : CmdFault) → Fails fault (fields_at buffering_kinds a) → Fails fault whole
+    create_fails_2 fault e = fails_then shape_kinds from_buffering place shape a fault one (fails_first buffering_kinds from_manner a fault e)
 
     module _ (buffering : List Field) (b : Place) (two : fields_at buffering_kinds a ≡ Ok (buffering, b)) where
-      pub create_fails_3 : (fault : CmdFault) → Fails fault (fields_at manner_kinds b) → Fails fault (fields_at create_kinds place)
-      create_fails_3 fault e = fails_then shape_kinds from_buffering place shape a fault one (fails_then buffering_kinds manner_kinds a buffering b fault two e)
+      third : (fault : CmdFault) → Fails fault (fields_at from_manner b) → Fails fault whole
+      third fault e = fails_then shape_kinds from_buffering place shape a fault one (fails_then buffering_kinds from_manner a buffering b fault two e)
 
-      pub create_reads : (manner : List Field) (c : Place) → fields_at manner_kinds b ≡ Ok (manner, c) → fields_at create_kinds place ≡ Ok (shape ++ (buffering ++ manner), c)
-      create_reads manner c three = fields_then shape_kinds from_buffering place shape a one ∙ ap (behind shape) (fields_then buffering_kinds manner_kinds a buffering b two ∙ ap (behind buffering) three)
+      pub create_fails_3 : (fault : CmdFault) → Fails fault (fields_at manner_kinds b) → Fails fault whole
+      create_fails_3 fault e = third fault (fails_first manner_kinds later_kinds b fault e)
+
+      module _ (manner : List Field) (c : Place) (three : fields_at manner_kinds b ≡ Ok (manner, c)) where
+        pub create_fails_4 : (fault : CmdFault) → Fails fault (fields_at later_kinds c) → Fails fault whole
+        create_fails_4 fault e = third fault (fails_then manner_kinds later_kinds b manner c fault three e)
+
+        pub create_reads : (later : List Field) (d : Place) → fields_at later_kinds c ≡ Ok (later, d) → whole ≡ Ok (shape ++ (buffering ++ (manner ++ later)), d)
+        create_reads later d four =
+            fields_then shape_kinds from_buffering place shape a one
+            ∙ ap (behind shape) (fields_then buffering_kinds from_manner a buffering b two
+            ∙ ap (behind buffering) (fields_then manner_kinds later_kinds b manner c three ∙ ap (behind manner) four))

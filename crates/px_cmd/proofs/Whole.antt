@@ -10,7 +10,7 @@ use Rattle.px_cmd.specs.declared.fault.CmdFault.TheVariants.{Protocol, Unknown, 
 use Rattle.px_cmd.specs.Field.{Kind, Field, fields_at}
 use Rattle.px_cmd.specs.declared.command.Command.{Command}
 use Rattle.px_cmd.specs.Table.{kinds_of}
-use Rattle.px_cmd.specs.Packet.{head_at, protocol, fields_or, command_at, with_number, meaning, taken, FailsAs, Answers}
+use Rattle.px_cmd.specs.Packet.{head_at, protocol, fields_or, command_at, with_number, meaning, taken, Fails, FailsAs, Answers}
 
 abbrev refused : {A : Type 0} → CmdFault → Result A CmdFault
 refused fault = Err fault
@@ -37,40 +37,47 @@ taken_ok : (kinds : Option (List Kind)) (command : ℕ) (place : Place) (fields 
 taken_ok None command place fields after e = absurd cc
 taken_ok (Some kinds) command place fields after e = rw (part_ok (fields_at kinds place) fields after e) refl
 
+-- a fault in the fields of a command
+pub part_fails : (read : Result (List Field × Place) TagFault) (fault : CmdFault) → Fails fault read → FailsAs fault (protocol read)
+part_fails read (Protocol fault) e = ap protocol e
+part_fails read (Unknown command) e = absurd e
+part_fails read (Unsupported command) e = absurd e
+part_fails read NoMemory e = tt
+
 -- ---- the packet
 
-pub front_fails : (packet : List ℕ) (fault : TagFault) → head_at (start_of packet) ≡ Err fault → meaning packet ≡ Err (Protocol fault)
+pub front_fails : (version : ℕ) (packet : List ℕ) (fault : TagFault) → head_at (start_of packet) ≡ Err fault → meaning version packet ≡ Err (Protocol fault)
 unfolding meaning
-front_fails packet fault e = rw e refl
+front_fails version packet fault e = rw e refl
 
-module _ (packet : List ℕ) (command tag : ℕ) (place : Place) (front : head_at (start_of packet) ≡ Ok ((command, tag), place)) where
-  pub unknown : 104 < command → meaning packet ≡ Err (Unknown command)
+module _ (version : ℕ) (packet : List ℕ) (command tag : ℕ) (place : Place) (front : head_at (start_of packet) ≡ Ok ((command, tag), place)) where
+  pub unknown : 104 < command → meaning version packet ≡ Err (Unknown command)
   unfolding meaning command_at
   unknown above = let test : ltb 104 command ≡ true = lt-ltb _ _ above in rw (front, test) refl
 
   module _ (known : command ≤ 104) where
-    whole : meaning packet ≡ with_number command (fields_or (kinds_of command) command place)
+    whole : meaning version packet ≡ with_number command (fields_or (kinds_of version command) command place)
     unfolding meaning command_at
     whole = let test : ltb 104 command ≡ false = le-ltb _ _ known in rw (front, test) refl
 
-    fails : (fault : CmdFault) → taken (kinds_of command) command place ≡ Err fault → meaning packet ≡ Err fault
-    fails fault e = whole ∙ ap (with_number command) (taken_err (kinds_of command) command place fault e)
+    fails : (fault : CmdFault) → taken (kinds_of version command) command place ≡ Err fault → meaning version packet ≡ Err fault
+    fails fault e = whole ∙ ap (with_number command) (taken_err (kinds_of version command) command place fault e)
 
-    pub fields_fail : (fault : CmdFault) → FailsAs fault (taken (kinds_of command) command place) → FailsAs fault (meaning packet)
+    pub fields_fail : (fault : CmdFault) → FailsAs fault (taken (kinds_of version command) command place) → FailsAs fault (meaning version packet)
     fields_fail (Protocol fault) e = fails (Protocol fault) e
     fields_fail (Unknown n) e = fails (Unknown n) e
     fields_fail (Unsupported n) e = fails (Unsupported n) e
     fields_fail NoMemory e = tt
 
-    module _ (fields : List Field) (after : Place) (read : taken (kinds_of command) command place ≡ protocol (all_read fields after)) where
-      pub left : (fault : TagFault) → end_at after ≡ Err fault → meaning packet ≡ Err (Protocol fault)
+    module _ (fields : List Field) (after : Place) (read : taken (kinds_of version command) command place ≡ protocol (all_read fields after)) where
+      pub left : (fault : TagFault) → end_at after ≡ Err fault → meaning version packet ≡ Err (Protocol fault)
       left fault e =
-          let last : fields_or (kinds_of command) command place ≡ refused (Protocol fault) = rw (taken_ok (kinds_of command) command place fields after read, e) refl in
+          let last : fields_or (kinds_of version command) command place ≡ refused (Protocol fault) = rw (taken_ok (kinds_of version command) command place fields after read, e) refl in
           whole ∙ ap (with_number command) last
 
-      pub means : end_at after ≡ Ok tt → meaning packet ≡ Ok (command, fields)
+      pub means : end_at after ≡ Ok tt → meaning version packet ≡ Ok (command, fields)
       means e =
-          let last : fields_or (kinds_of command) command place ≡ Ok fields = rw (taken_ok (kinds_of command) command place fields after read, e) refl in
+          let last : fields_or (kinds_of version command) command place ≡ Ok fields = rw (taken_ok (kinds_of version command) command place fields after read, e) refl in
           whole ∙ ap (with_number command) last
 
 -- ---- a command that is kept through the test of the end

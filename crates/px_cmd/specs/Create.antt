@@ -1,12 +1,14 @@
 -- The parts of CREATE_PLAYBACK_STREAM's fields, in the order of the packet.
-use Rattle.std.specs.Prelude.{List, [], ◌∷◌, ◌++◌, slice_index}
+use Rattle.std.specs.Prelude.{ℕ, List, [], ◌∷◌, ◌++◌, slice_index}
 use Rattle.px_cmd.specs.declared.create.Shape.{Shape}
 use Rattle.px_cmd.specs.declared.create.Buffering.{Buffering}
 use Rattle.px_cmd.specs.declared.create.Matching.{Matching}
 use Rattle.px_cmd.specs.declared.create.Playing.{Playing}
 use Rattle.px_cmd.specs.declared.create.Manner.{Manner}
-use Rattle.px_cmd.specs.Command.{sink_fields}
+use Rattle.px_cmd.specs.declared.create.Later.{Later}
+use Rattle.px_cmd.specs.Command.{optional, sink_fields}
 use Rattle.px_cmd.specs.Field.{Kind, u32, bool, string, sample_spec, positions, volumes, properties, Field, Number, Flag, SampleSpec, Positions, Volumes, Properties}
+use Rattle.px_cmd.specs.Meant.{IsFrom}
 
 abbrev pub shape_kinds : List Kind
 shape_kinds = sample_spec ∷ positions ∷ u32 ∷ string ∷ []
@@ -39,3 +41,18 @@ manner_kinds = matching_kinds ++ (playing_kinds ++ properties ∷ [])
 
 abbrev pub manner_fields : Manner → List Field
 manner_fields m = matching_fields m.matching ++ (playing_fields m.playing ++ Properties m.list ∷ [])
+
+-- the flags of later versions
+abbrev pub later_fields : Later → List Field
+later_fields l =
+    optional l.volume_set ++ optional l.early_requests ++ optional l.muted_set ++ optional l.dont_inhibit_auto_suspend ++ optional l.fail_on_suspend ++ optional l.relative_volume ++ optional l.passthrough
+
+-- each is there exactly from its version on
+pub record IsLater (version : ℕ) (l : Later) : Type 0 where
+  pub volume_set : IsFrom 14 version l.volume_set
+  pub early_requests : IsFrom 14 version l.early_requests
+  pub muted_set : IsFrom 15 version l.muted_set
+  pub dont_inhibit_auto_suspend : IsFrom 15 version l.dont_inhibit_auto_suspend
+  pub fail_on_suspend : IsFrom 15 version l.fail_on_suspend
+  pub relative_volume : IsFrom 17 version l.relative_volume
+  pub passthrough : IsFrom 18 version l.passthrough

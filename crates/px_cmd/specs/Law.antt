@@ -30,11 +30,11 @@ IsField (TimeValue t) = IsTime t
 IsField (Properties list) = IsPropList list
 IsField (Keys list) = AllByRecursion (λ key. IsText (Some key)) list
 
--- a command of the table with fields of its kinds
-pub record IsCommand (command tag : ℕ) (fields : List Field) : Type 0 where
+-- a command of the table with fields of the kinds that it has at this version
+pub record IsCommand (version command tag : ℕ) (fields : List Field) : Type 0 where
   pub known : command ≤ last_command
   pub tagged : tag < 2 ^ 32
-  pub kinds : kinds_of command ≡ Some (map kind_of fields)
+  pub kinds : kinds_of version command ≡ Some (map kind_of fields)
   pub each : AllByRecursion IsField fields
 
 -- the bytes of a command's packet
@@ -59,13 +59,13 @@ abbrev pub AreSpelledAs : List Field → List ℕ → Type 0
 AreSpelledAs [] bytes = bytes ≡ []
 AreSpelledAs (field ∷ fields) bytes = (front : List ℕ) × (rest : List ℕ) × IsSpelledAs field front × AreSpelledAs fields rest × (bytes ≡ front ++ rest)
 
--- the packet is exactly a command's number, a tag and fields of the kinds that the table gives the command
-pub record IsPacketOf (packet : List ℕ) (command : ℕ) (fields : List Field) : Type 0 where
+-- the packet is exactly a command's number, a tag and fields of the kinds that the command has at this version
+pub record IsPacketOf (version : ℕ) (packet : List ℕ) (command : ℕ) (fields : List Field) : Type 0 where
   pub tag : ℕ
   pub cells : List ℕ
   pub known : command ≤ last_command
   pub tagged : tag < 2 ^ 32
-  pub kinds : kinds_of command ≡ Some (map kind_of fields)
+  pub kinds : kinds_of version command ≡ Some (map kind_of fields)
   pub each : AllByRecursion IsField fields
   pub spelled : AreSpelledAs fields cells
   pub whole : packet ≡ number command ++ number tag ++ cells

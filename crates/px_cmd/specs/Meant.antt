@@ -1,5 +1,6 @@
--- The command that a packet means.
-use Rattle.std.specs.Prelude.{◌≡◌, ℕ, Bool, nat_eq, List, [], ◌∷◌, length, Option, None, Some, Result, Ok, Err}
+-- The command that a packet means at a version of the protocol.
+use Rattle.std.specs.Prelude.{◌≡◌, ℕ, Bool, nat_eq, nat_le, List, [], ◌∷◌, length, slice_get, Option, None, Some, is_some, Result, Ok, Err}
+use Rattle.std.specs.Option.{option_and_then}
 use Rattle.std.specs.Map.{lookup}
 use Rattle.px_tag.specs.PropList.{Property}
 use Rattle.px_cmd.specs.declared.command.SinkRef.{SinkRef}
@@ -10,6 +11,16 @@ use Rattle.px_cmd.specs.declared.fault.CmdFault.{CmdFault}
 use Rattle.px_cmd.specs.declared.fault.CmdFault.TheVariants.{Unsupported}
 use Rattle.px_cmd.specs.Field.{Field, Number, Flag, String, Cookie, SampleSpec, Positions, Volumes, TimeValue, Properties, Keys}
 use Rattle.px_cmd.specs.Packet.{meaning}
+
+-- ---- flags of later versions, by their places after the fields of version 13
+
+abbrev pub flag_in : Field → Option Bool
+flag_in (Flag on) = Some on
+flag_in _ = None
+
+-- the flag at a place, if it is there
+abbrev pub flag_at : ℕ → List Field → Option Bool
+flag_at place later = option_and_then flag_in (slice_get later place)
 
 -- ---- the command with these fields, where they have its kinds
 
@@ -66,8 +77,8 @@ of_move (Number input ∷ Number index ∷ String name ∷ []) = Some (commands.
 of_move _ = None
 
 abbrev pub of_attributes : List Field → Option Command
-of_attributes (Number stream ∷ Number maxlength ∷ Number tlength ∷ Number prebuf ∷ Number minreq ∷ Flag adjust_latency ∷ []) =
-    Some (commands.Attributes stream (maxlength ∷ tlength ∷ prebuf ∷ minreq ∷ []) adjust_latency None)
+of_attributes (Number stream ∷ Number maxlength ∷ Number tlength ∷ Number prebuf ∷ Number minreq ∷ Flag adjust_latency ∷ later) =
+    Some (commands.Attributes stream (maxlength ∷ tlength ∷ prebuf ∷ minreq ∷ []) adjust_latency (flag_at 0 later))
 of_attributes _ = None
 
 abbrev pub of_stream_update : List Field → Option Command
@@ -90,7 +101,7 @@ abbrev pub of_create : List Field → Option Command
 of_create (SampleSpec spec ∷ Positions map ∷ Number index ∷ String name
     ∷ Number maxlength ∷ Flag corked ∷ Number tlength ∷ Number prebuf ∷ Number minreq ∷ Number syncid ∷ Volumes volume
     ∷ Flag no_remap ∷ Flag no_remix ∷ Flag fix_format ∷ Flag fix_rate ∷ Flag fix_channels ∷ Flag no_move ∷ Flag variable_rate ∷ Flag muted ∷ Flag adjust_latency
-    ∷ Properties list ∷ []) = Some (commands.Create (record {
+    ∷ Properties list ∷ later) = Some (commands.Create (record {
       spec = spec;
       map = map;
       sink = record { index = index; name = name };
@@ -108,13 +119,13 @@ of_create (SampleSpec spec ∷ Positions map ∷ Number index ∷ String name
       muted = muted;
       adjust_latency = adjust_latency;
       list = list;
-      volume_set = None;
-      early_requests = None;
-      muted_set = None;
-      dont_inhibit_auto_suspend = None;
-      fail_on_suspend = None;
-      relative_volume = None;
-      passthrough = None;
+      volume_set = flag_at 0 later;
+      early_requests = flag_at 1 later;
+      muted_set = flag_at 2 later;
+      dont_inhibit_auto_suspend = flag_at 3 later;
+      fail_on_suspend = flag_at 4 later;
+      relative_volume = flag_at 5 later;
+      passthrough = flag_at 6 later;
     }))
 of_create _ = None
 
@@ -123,6 +134,7 @@ of_create _ = None
 abbrev pub makers : List (ℕ × (List Field → Option Command))
 makers =
     (3, of_create)
+    ∷ (72, of_attributes)
     ∷ (4, of_number commands.Delete)
     ∷ (8, of_auth)
     ∷ (9, of_list commands.SetClientName)
@@ -154,7 +166,6 @@ makers =
     ∷ (60, of_number commands.Prebuf)
     ∷ (67, of_move)
     ∷ (69, of_switch commands.InputMute)
-    ∷ (72, of_attributes)
     ∷ (81, of_stream_update)
     ∷ (82, of_client_update)
     ∷ (84, of_stream_removal)
@@ -179,22 +190,25 @@ abbrev pub command_by : Result (ℕ × List Field) CmdFault → Result Command C
 command_by (Ok packet) = command_or packet.0 (command_of packet.0 packet.1)
 command_by (Err fault) = Err fault
 
-unfoldable pub meant : List ℕ → Result Command CmdFault
-meant packet = command_by (meaning packet)
+unfoldable pub meant : ℕ → List ℕ → Result Command CmdFault
+meant version packet = command_by (meaning version packet)
 
--- ---- what a packet of version 13 can mean: it has four buffer attributes, and not the flags of later versions
+-- ---- what a packet of a version can mean: it has four buffer attributes, and each flag of a later version exactly from that version on
 
-pub record AreFields (c : CreateFields) : Type 0 where
+abbrev pub IsFrom : ℕ → ℕ → Option Bool → Type 0
+IsFrom since version flag = is_some flag ≡ nat_le since version
+
+pub record AreFields (version : ℕ) (c : CreateFields) : Type 0 where
   pub asked : length c.asked ≡ 4
-  pub volume_set : c.volume_set ≡ None
-  pub early_requests : c.early_requests ≡ None
-  pub muted_set : c.muted_set ≡ None
-  pub dont_inhibit_auto_suspend : c.dont_inhibit_auto_suspend ≡ None
-  pub fail_on_suspend : c.fail_on_suspend ≡ None
-  pub relative_volume : c.relative_volume ≡ None
-  pub passthrough : c.passthrough ≡ None
+  pub volume_set : IsFrom 14 version c.volume_set
+  pub early_requests : IsFrom 14 version c.early_requests
+  pub muted_set : IsFrom 15 version c.muted_set
+  pub dont_inhibit_auto_suspend : IsFrom 15 version c.dont_inhibit_auto_suspend
+  pub fail_on_suspend : IsFrom 15 version c.fail_on_suspend
+  pub relative_volume : IsFrom 17 version c.relative_volume
+  pub passthrough : IsFrom 18 version c.passthrough
 
-abbrev pub IsOfVersion13 : Command → Type 0
-IsOfVersion13 (commands.Create fields) = AreFields fields
-IsOfVersion13 (commands.Attributes stream asked adjust_latency early_requests) = (length asked ≡ 4) × (early_requests ≡ None)
-IsOfVersion13 _ = Unit {0}
+abbrev pub IsOfVersion : ℕ → Command → Type 0
+IsOfVersion version (commands.Create fields) = AreFields version fields
+IsOfVersion version (commands.Attributes stream asked adjust_latency early_requests) = (length asked ≡ 4) × IsFrom 14 version early_requests
+IsOfVersion version _ = Unit {0}

@@ -1,4 +1,4 @@
--- What a packet means: its command's number and fields, or why it means none.
+-- What a packet means at a version of the protocol: its command's number and fields, or why it means none.
 use Rattle.std.specs.Prelude.{◌≡◌, ℕ, List, Option, None, Some, Result, Ok, Err, nat_lt, if◌then◌else◌}
 use Rattle.px_tag.specs.declared.fault.TagFault.{TagFault}
 use Rattle.px_tag.specs.Place.{Place, Reading, start_of, ◌>>=◌}
@@ -30,20 +30,20 @@ abbrev pub fields_or : Option (List Kind) → ℕ → Place → Result (List Fie
 fields_or None command place = Err (Unsupported command)
 fields_or (Some kinds) command place = protocol (all_fields kinds place)
 
-unfoldable pub command_at : ℕ → Place → Result (List Field) CmdFault
-command_at command place = if nat_lt last_command command then Err (Unknown command) else fields_or (kinds_of command) command place
+unfoldable pub command_at : ℕ → ℕ → Place → Result (List Field) CmdFault
+command_at version command place = if nat_lt last_command command then Err (Unknown command) else fields_or (kinds_of version command) command place
 
 abbrev pub with_number : ℕ → Result (List Field) CmdFault → Result (ℕ × List Field) CmdFault
 with_number command (Ok fields) = Ok (command, fields)
 with_number command (Err fault) = Err fault
 
-abbrev pub meant_behind : Result ((ℕ × ℕ) × Place) TagFault → Result (ℕ × List Field) CmdFault
-meant_behind (Err fault) = Err (Protocol fault)
-meant_behind (Ok head) = with_number head.0.0 (command_at head.0.0 head.1)
+abbrev pub meant_behind : ℕ → Result ((ℕ × ℕ) × Place) TagFault → Result (ℕ × List Field) CmdFault
+meant_behind version (Err fault) = Err (Protocol fault)
+meant_behind version (Ok head) = with_number head.0.0 (command_at version head.0.0 head.1)
 
 -- the command number and the fields of a packet
-unfoldable pub meaning : List ℕ → Result (ℕ × List Field) CmdFault
-meaning packet = meant_behind (head_at (start_of packet))
+unfoldable pub meaning : ℕ → List ℕ → Result (ℕ × List Field) CmdFault
+meaning version packet = meant_behind version (head_at (start_of packet))
 
 -- ---- the answers of the calls
 

@@ -1,4 +1,4 @@
-//! The commands of version 13, with their fields as the packet has them.
+//! The commands of versions 13 to 18, with their fields as the packet has them.
 
 use crate::text::{Keys, Text};
 use px_tag::{PropList, RawMap, RawSpec, RawVolume, TimeVal};

@@ -1,16 +1,16 @@
 //! The fields of CREATE_PLAYBACK_STREAM.
 
-ghost use Rattle.std.specs.Prelude.{◌≡◌, length, IfOk};
+ghost use Rattle.std.specs.Prelude.{◌≡◌, ◌++◌, length, IfOk};
 ghost use Rattle.px_cmd.specs.Command.{create_fields};
-ghost use Rattle.px_cmd.specs.Create.{shape_kinds, shape_fields, buffering_kinds, buffering_fields, matching_kinds, matching_fields, playing_kinds, playing_fields, manner_kinds, manner_fields};
+ghost use Rattle.px_cmd.specs.Create.{shape_kinds, shape_fields, buffering_kinds, buffering_fields, matching_kinds, matching_fields, playing_kinds, playing_fields, manner_kinds, manner_fields, later_fields, IsLater};
 ghost use Rattle.px_cmd.specs.Field.{fields_at};
 ghost use Rattle.px_cmd.specs.Meant.{AreFields};
 ghost use Rattle.px_cmd.specs.Packet.{Takes};
-ghost use Rattle.px_cmd.specs.Table.{create_kinds};
+ghost use Rattle.px_cmd.specs.Table.{create_kinds, create_later};
 
 use crate::command::{CreateFields, SinkRef};
 use crate::fault::CmdFault;
-use crate::fields::{properties, sink};
+use crate::fields::{flag_from, properties, sink};
 use px_tag::{PropList, RawMap, RawSpec, RawVolume, TagReader};
 use std::alloc::Global;
 
@@ -56,6 +56,18 @@ struct Manner {
     matching: Matching,
     playing: Playing,
     list: PropList,
+}
+
+// The flags of later versions.
+#[derive(Clone, Copy)]
+struct Later {
+    volume_set: Option<bool>,
+    early_requests: Option<bool>,
+    muted_set: Option<bool>,
+    dont_inhibit_auto_suspend: Option<bool>,
+    fail_on_suspend: Option<bool>,
+    relative_volume: Option<bool>,
+    passthrough: Option<bool>,
 }
 
 fn read_shape(alloc: Global, reader: &mut TagReader) -> Result<Shape, CmdFault>
@@ -131,14 +143,41 @@ fn read_manner(alloc: Global, reader: &mut TagReader) -> Result<Manner, CmdFault
     })
 }
 
-/// The fields of CREATE_PLAYBACK_STREAM at version 13.
-pub(crate) fn create(alloc: Global, reader: &mut TagReader) -> Result<CreateFields, CmdFault>
-    ensures value { Takes create_fields result reader.new (fields_at create_kinds reader.old) }
-    ensures plain { IfOk result AreFields }
+fn read_later(reader: &mut TagReader, version: u16) -> Result<Later, CmdFault>
+    ensures value { Takes later_fields result reader.new (fields_at (create_later version) reader.old) }
+    ensures of_version { IfOk result (IsLater version) }
+{
+    let volume_set = flag_from(reader, 14, version)?;
+    let early_requests = flag_from(reader, 14, version)?;
+    let muted_set = flag_from(reader, 15, version)?;
+    let dont_inhibit_auto_suspend = flag_from(reader, 15, version)?;
+    let fail_on_suspend = flag_from(reader, 15, version)?;
+    let relative_volume = flag_from(reader, 17, version)?;
+    let passthrough = flag_from(reader, 18, version)?;
+    Ok(Later {
+        volume_set,
+        early_requests,
+        muted_set,
+        dont_inhibit_auto_suspend,
+        fail_on_suspend,
+        relative_volume,
+        passthrough,
+    })
+}
+
+/// The fields of CREATE_PLAYBACK_STREAM at this version.
+pub(crate) fn create(
+    alloc: Global,
+    reader: &mut TagReader,
+    version: u16,
+) -> Result<CreateFields, CmdFault>
+    ensures value { Takes create_fields result reader.new (fields_at (create_kinds ++ create_later version) reader.old) }
+    ensures of_version { IfOk result (AreFields version) }
 {
     let shape = read_shape(alloc, reader)?;
     let buffering = read_buffering(reader)?;
     let manner = read_manner(alloc, reader)?;
+    let later = read_later(reader, version)?;
     let asked = buffering.asked;
     let matching = manner.matching;
     let playing = manner.playing;
@@ -160,12 +199,12 @@ pub(crate) fn create(alloc: Global, reader: &mut TagReader) -> Result<CreateFiel
         muted: playing.muted,
         adjust_latency: playing.adjust_latency,
         list: manner.list,
-        volume_set: None,
-        early_requests: None,
-        muted_set: None,
-        dont_inhibit_auto_suspend: None,
-        fail_on_suspend: None,
-        relative_volume: None,
-        passthrough: None,
+        volume_set: later.volume_set,
+        early_requests: later.early_requests,
+        muted_set: later.muted_set,
+        dont_inhibit_auto_suspend: later.dont_inhibit_auto_suspend,
+        fail_on_suspend: later.fail_on_suspend,
+        relative_volume: later.relative_volume,
+        passthrough: later.passthrough,
     })
 }

@@ -1,11 +1,13 @@
 //! Fields, read one after the other.
 
-ghost use Rattle.std.specs.Prelude.{◌≡◌, length, ◌∷◌, []};
+ghost use Rattle.std.specs.Prelude.{◌≡◌, length, ◌∷◌, [], IfOk};
 ghost use Rattle.std.specs.Option.{option_map};
 ghost use Rattle.px_tag.specs.Reading.{text_at, counted_at, proplist_at};
 ghost use Rattle.px_cmd.specs.Field.{fields_at, keys_at, u32, bool, string, cookie, sample_spec, positions, volumes, time_value, properties, keys};
-ghost use Rattle.px_cmd.specs.Command.{sink_fields};
+ghost use Rattle.px_cmd.specs.Command.{optional, sink_fields};
+ghost use Rattle.px_cmd.specs.Meant.{IsFrom};
 ghost use Rattle.px_cmd.specs.Packet.{Takes};
+ghost use Rattle.px_cmd.specs.Table.{from_on};
 
 use crate::command::SinkRef;
 use crate::fault::CmdFault;
@@ -58,4 +60,19 @@ pub(crate) fn keys(alloc: Global, reader: &mut TagReader) -> Result<Keys, CmdFau
             Some(key) => keys.push(key)?,
         }
     }
+}
+
+/// A flag that packets have from version `since` on: `None` in those of earlier versions, of which nothing is read.
+pub(crate) fn flag_from(
+    reader: &mut TagReader,
+    since: u16,
+    version: u16,
+) -> Result<Option<bool>, CmdFault>
+    ensures value { Takes optional result reader.new (fields_at (from_on since version) reader.old) }
+    ensures of_version { IfOk result (IsFrom since version) }
+{
+    if version < since {
+        return Ok(None);
+    }
+    Ok(Some(reader.flag()?))
 }

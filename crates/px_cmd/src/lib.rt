@@ -1,5 +1,5 @@
-//! The commands of PulseAudio's native protocol at version 13: a packet means a command exactly where its bytes are the command's number, a
-//! tag and the spelling of the command's fields, and nothing more.
+//! The commands of PulseAudio's native protocol at versions 13 to 18: a packet means a command exactly where its bytes are the command's
+//! number, a tag and the spelling of the fields that the command has at the connection's version, and nothing more.
 #![tactic(auto)]
 
 mod command;

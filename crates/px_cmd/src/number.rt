@@ -1,6 +1,6 @@
 //! The numbers of the supported commands, by their names in `pulsecore/native-common.h` without `PA_COMMAND_`.
 
-ghost use Rattle.std.specs.Prelude.{◌≡◌, is_some};
+ghost use Rattle.std.specs.Prelude.{◌≡◌, ℕ, is_some};
 ghost use Rattle.px_cmd.specs.Table.{kinds_of};
 
 pub const CREATE_PLAYBACK_STREAM: u32 = 3;
@@ -79,9 +79,9 @@ pub const REMOVE_CLIENT_PROPLIST: u32 = 85;
 
 pub const GET_CARD_INFO_LIST: u32 = 89;
 
-/// Whether a command with this number is in the table. Takes no memory.
+/// Whether a command with this number is in the table, which has the same numbers at every version. Takes no memory.
 pub fn is_command(number: u32) -> bool
-    ensures { result ≡ is_some (kinds_of number) }
+    ensures { (version : ℕ) → result ≡ is_some (kinds_of version number) }
 {
     matches!(
         number,

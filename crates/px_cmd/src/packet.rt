@@ -1,30 +1,30 @@
-//! Commands, read from packets. The readers of their fields are a ladder by the commands' numbers: each reads a few commands and hands the
-//! others on. A `match` is proved case by case, and each clause of its function anew in each case, so one `match` of all 38 would take too
-//! long.
+//! Commands, read from packets. The two whose fields depend on the version are read first. The readers of the others are a ladder by the
+//! commands' numbers: each reads a few commands and hands the others on. A `match` is proved case by case, and each clause of its function
+//! anew in each case, so one `match` of all 38 would take too long.
 
 ghost use Rattle.std.specs.Prelude.{◌≡◌, ◌≤◌, IfOk};
 ghost use Rattle.px_cmd.specs.Command.{fields_of, number_of, IsNumbered};
-ghost use Rattle.px_cmd.specs.Meant.{meant, IsOfVersion13};
+ghost use Rattle.px_cmd.specs.Meant.{meant, IsOfVersion};
 ghost use Rattle.px_cmd.specs.Packet.{taken, meaning, Reaches, Answers};
-ghost use Rattle.px_cmd.specs.Table.{kinds_of};
+ghost use Rattle.px_cmd.specs.Table.{kinds_of, steady_kinds};
 
 use crate::command::Command;
 use crate::create::create;
 use crate::fault::CmdFault;
-use crate::fields::{cookie, keys, properties, sink, text};
+use crate::fields::{cookie, flag_from, keys, properties, sink, text};
 use crate::head::front;
 use crate::number;
 use px_tag::TagReader;
 use std::alloc::Global;
 
-/// The greatest number of a command that the protocol knows: `PA_COMMAND_MAX` of version 13.
+/// The greatest number of a command that the protocol knows: `PA_COMMAND_MAX` of version 13, at every version.
 const LAST_COMMAND: u32 = 104;
 
 // The fields of SET_PLAYBACK_STREAM_BUFFER_ATTR.
-fn attributes(reader: &mut TagReader) -> Result<Command, CmdFault>
-    ensures value { Reaches result 72 reader.new (taken (kinds_of 72) 72 reader.old) }
+fn attributes(reader: &mut TagReader, version: u16) -> Result<Command, CmdFault>
+    ensures value { Reaches result 72 reader.new (taken (kinds_of version 72) 72 reader.old) }
     ensures numbered { IfOk result IsNumbered }
-    ensures plain { IfOk result IsOfVersion13 }
+    ensures of_version { IfOk result (IsOfVersion version) }
 {
     let stream = reader.number()?;
     let maxlength = reader.number()?;
@@ -32,20 +32,20 @@ fn attributes(reader: &mut TagReader) -> Result<Command, CmdFault>
     let prebuf = reader.number()?;
     let minreq = reader.number()?;
     let adjust_latency = reader.flag()?;
+    let early_requests = flag_from(reader, 14, version)?;
     Ok(Command::Attributes {
         stream,
         asked: [maxlength, tlength, prebuf, minreq],
         adjust_latency,
-        early_requests: None,
+        early_requests,
     })
 }
 
 // The fields of the commands from 84 on: those that remove properties, and the last of the empty lists.
 fn removal_fields(alloc: Global, number: u32, reader: &mut TagReader) -> Result<Command, CmdFault>
     requires { 84 ≤ number }
-    ensures value { Reaches result number reader.new (taken (kinds_of number) number reader.old) }
+    ensures value { Reaches result number reader.new (taken (steady_kinds number) number reader.old) }
     ensures numbered { IfOk result IsNumbered }
-    ensures plain { IfOk result IsOfVersion13 }
 {
     match number {
         number::REMOVE_PLAYBACK_STREAM_PROPLIST => {
@@ -65,9 +65,8 @@ fn removal_fields(alloc: Global, number: u32, reader: &mut TagReader) -> Result<
 // The fields of the commands from 81 on: first those that update property lists.
 fn list_fields(alloc: Global, number: u32, reader: &mut TagReader) -> Result<Command, CmdFault>
     requires { 81 ≤ number }
-    ensures value { Reaches result number reader.new (taken (kinds_of number) number reader.old) }
+    ensures value { Reaches result number reader.new (taken (steady_kinds number) number reader.old) }
     ensures numbered { IfOk result IsNumbered }
-    ensures plain { IfOk result IsOfVersion13 }
 {
     match number {
         number::UPDATE_PLAYBACK_STREAM_PROPLIST => {
@@ -86,12 +85,11 @@ fn list_fields(alloc: Global, number: u32, reader: &mut TagReader) -> Result<Com
     }
 }
 
-// The fields of the commands from 67 on: first those that move and mute an input, and its stream's buffer attributes.
+// The fields of the commands from 67 on: first those that move and mute an input.
 fn input_fields(alloc: Global, number: u32, reader: &mut TagReader) -> Result<Command, CmdFault>
     requires { 67 ≤ number }
-    ensures value { Reaches result number reader.new (taken (kinds_of number) number reader.old) }
+    ensures value { Reaches result number reader.new (taken (steady_kinds number) number reader.old) }
     ensures numbered { IfOk result IsNumbered }
-    ensures plain { IfOk result IsOfVersion13 }
 {
     match number {
         number::MOVE_SINK_INPUT => {
@@ -104,7 +102,6 @@ fn input_fields(alloc: Global, number: u32, reader: &mut TagReader) -> Result<Co
             let on = reader.flag()?;
             Ok(Command::InputMute { input, on })
         }
-        number::SET_PLAYBACK_STREAM_BUFFER_ATTR => attributes(reader),
         _ if number < number::UPDATE_PLAYBACK_STREAM_PROPLIST => Err(CmdFault::Unsupported(number)),
         _ => list_fields(alloc, number, reader),
     }
@@ -117,9 +114,8 @@ fn kill_and_prebuf_fields(
     reader: &mut TagReader,
 ) -> Result<Command, CmdFault>
     requires { 48 ≤ number }
-    ensures value { Reaches result number reader.new (taken (kinds_of number) number reader.old) }
+    ensures value { Reaches result number reader.new (taken (steady_kinds number) number reader.old) }
     ensures numbered { IfOk result IsNumbered }
-    ensures plain { IfOk result IsOfVersion13 }
 {
     match number {
         number::KILL_CLIENT => {
@@ -142,9 +138,8 @@ fn kill_and_prebuf_fields(
 // The fields of the commands from 44 on: first those that name the default sink or a stream.
 fn name_fields(alloc: Global, number: u32, reader: &mut TagReader) -> Result<Command, CmdFault>
     requires { 44 ≤ number }
-    ensures value { Reaches result number reader.new (taken (kinds_of number) number reader.old) }
+    ensures value { Reaches result number reader.new (taken (steady_kinds number) number reader.old) }
     ensures numbered { IfOk result IsNumbered }
-    ensures plain { IfOk result IsOfVersion13 }
 {
     match number {
         number::SET_DEFAULT_SINK => {
@@ -168,9 +163,8 @@ fn stream_control_fields(
     reader: &mut TagReader,
 ) -> Result<Command, CmdFault>
     requires { 42 ≤ number }
-    ensures value { Reaches result number reader.new (taken (kinds_of number) number reader.old) }
+    ensures value { Reaches result number reader.new (taken (steady_kinds number) number reader.old) }
     ensures numbered { IfOk result IsNumbered }
-    ensures plain { IfOk result IsOfVersion13 }
 {
     match number {
         number::FLUSH_PLAYBACK_STREAM => {
@@ -193,9 +187,8 @@ fn mute_and_cork_fields(
     reader: &mut TagReader,
 ) -> Result<Command, CmdFault>
     requires { 39 ≤ number }
-    ensures value { Reaches result number reader.new (taken (kinds_of number) number reader.old) }
+    ensures value { Reaches result number reader.new (taken (steady_kinds number) number reader.old) }
     ensures numbered { IfOk result IsNumbered }
-    ensures plain { IfOk result IsOfVersion13 }
 {
     match number {
         number::SET_SINK_MUTE => {
@@ -216,9 +209,8 @@ fn mute_and_cork_fields(
 // The fields of the commands from 36 on: first those that set volumes.
 fn volume_fields(alloc: Global, number: u32, reader: &mut TagReader) -> Result<Command, CmdFault>
     requires { 36 ≤ number }
-    ensures value { Reaches result number reader.new (taken (kinds_of number) number reader.old) }
+    ensures value { Reaches result number reader.new (taken (steady_kinds number) number reader.old) }
     ensures numbered { IfOk result IsNumbered }
-    ensures plain { IfOk result IsOfVersion13 }
 {
     match number {
         number::SET_SINK_VOLUME => {
@@ -243,9 +235,8 @@ fn client_info_fields(
     reader: &mut TagReader,
 ) -> Result<Command, CmdFault>
     requires { 27 ≤ number }
-    ensures value { Reaches result number reader.new (taken (kinds_of number) number reader.old) }
+    ensures value { Reaches result number reader.new (taken (steady_kinds number) number reader.old) }
     ensures numbered { IfOk result IsNumbered }
-    ensures plain { IfOk result IsOfVersion13 }
 {
     match number {
         number::GET_CLIENT_INFO => {
@@ -277,9 +268,8 @@ fn server_info_fields(
     reader: &mut TagReader,
 ) -> Result<Command, CmdFault>
     requires { 12 ≤ number }
-    ensures value { Reaches result number reader.new (taken (kinds_of number) number reader.old) }
+    ensures value { Reaches result number reader.new (taken (steady_kinds number) number reader.old) }
     ensures numbered { IfOk result IsNumbered }
-    ensures plain { IfOk result IsOfVersion13 }
 {
     match number {
         number::DRAIN_PLAYBACK_STREAM => {
@@ -308,9 +298,8 @@ fn server_info_fields(
 // The fields of the commands from 9 on: first a client's name and LOOKUP_SINK.
 fn lookup_fields(alloc: Global, number: u32, reader: &mut TagReader) -> Result<Command, CmdFault>
     requires { 9 ≤ number }
-    ensures value { Reaches result number reader.new (taken (kinds_of number) number reader.old) }
+    ensures value { Reaches result number reader.new (taken (steady_kinds number) number reader.old) }
     ensures numbered { IfOk result IsNumbered }
-    ensures plain { IfOk result IsOfVersion13 }
 {
     match number {
         number::SET_CLIENT_NAME => {
@@ -326,17 +315,12 @@ fn lookup_fields(alloc: Global, number: u32, reader: &mut TagReader) -> Result<C
     }
 }
 
-// The fields of the command with this number.
-fn fields(alloc: Global, number: u32, reader: &mut TagReader) -> Result<Command, CmdFault>
-    ensures value { Reaches result number reader.new (taken (kinds_of number) number reader.old) }
+// The fields of the command with this number, if it has the same at every version.
+fn steady_fields(alloc: Global, number: u32, reader: &mut TagReader) -> Result<Command, CmdFault>
+    ensures value { Reaches result number reader.new (taken (steady_kinds number) number reader.old) }
     ensures numbered { IfOk result IsNumbered }
-    ensures plain { IfOk result IsOfVersion13 }
 {
     match number {
-        number::CREATE_PLAYBACK_STREAM => {
-            let fields = create(alloc, reader)?;
-            Ok(Command::Create(fields))
-        }
         number::DELETE_PLAYBACK_STREAM => {
             let stream = reader.number()?;
             Ok(Command::Delete { stream })
@@ -351,28 +335,50 @@ fn fields(alloc: Global, number: u32, reader: &mut TagReader) -> Result<Command,
     }
 }
 
-// The command that a packet means, by its number and fields.
-fn read(alloc: Global, packet: &[u8]) -> Result<Command, CmdFault>
-    ensures value { Answers (λ command. (number_of command, fields_of command)) result (meaning packet.now) }
+// The fields of the command with this number at this version.
+fn fields(
+    alloc: Global,
+    number: u32,
+    reader: &mut TagReader,
+    version: u16,
+) -> Result<Command, CmdFault>
+    ensures value { Reaches result number reader.new (taken (kinds_of version number) number reader.old) }
     ensures numbered { IfOk result IsNumbered }
-    ensures plain { IfOk result IsOfVersion13 }
+    ensures of_version { IfOk result (IsOfVersion version) }
+{
+    match number {
+        number::CREATE_PLAYBACK_STREAM => {
+            let fields = create(alloc, reader, version)?;
+            Ok(Command::Create(fields))
+        }
+        number::SET_PLAYBACK_STREAM_BUFFER_ATTR => attributes(reader, version),
+        _ => steady_fields(alloc, number, reader),
+    }
+}
+
+// The command that a packet means at this version, by its number and fields.
+fn read(alloc: Global, packet: &[u8], version: u16) -> Result<Command, CmdFault>
+    ensures value { Answers (λ command. (number_of command, fields_of command)) result (meaning version packet.now) }
+    ensures numbered { IfOk result IsNumbered }
+    ensures of_version { IfOk result (IsOfVersion version) }
 {
     let mut reader = TagReader::new(packet);
     let head = front(&mut reader)?;
     if head.command > LAST_COMMAND {
         return Err(CmdFault::Unknown(head.command));
     }
-    let command = fields(alloc, head.command, &mut reader)?;
+    let command = fields(alloc, head.command, &mut reader, version)?;
     reader.end().map(|()| command).map_err(CmdFault::Protocol)
 }
 
-/// The command that a packet means, with its fields by the connection's version; every version is read as 13. Takes memory for what the
-/// command holds: names, keys, a cookie, property lists.
+/// The command that a packet means, with its fields by the connection's `version`: those below 13 are read as 13, those above 18 as 18.
+/// Takes memory for what the command holds: names, keys, a cookie, property lists.
 #[tactic(auto, using(crate::proofs::Meant::means_too))]
-pub fn read_command(alloc: Global, packet: &[u8], _version: u16) -> Result<Command, CmdFault>
-    ensures command { Answers (λ command. command) result (meant packet.now) }
-    ensures value { Answers (λ command. (number_of command, fields_of command)) result (meaning packet.now) }
+pub fn read_command(alloc: Global, packet: &[u8], version: u16) -> Result<Command, CmdFault>
+    ensures command { Answers (λ command. command) result (meant version packet.now) }
+    ensures value { Answers (λ command. (number_of command, fields_of command)) result (meaning version packet.now) }
     ensures numbered { IfOk result IsNumbered }
+    ensures of_version { IfOk result (IsOfVersion version) }
 {
-    read(alloc, packet)
+    read(alloc, packet, version)
 }
