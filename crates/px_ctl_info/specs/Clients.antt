@@ -1,6 +1,6 @@
 -- The commands on clients (PulseAudio: `command_auth`, `command_set_client_name`, `command_get_info`, `command_get_info_list`, `command_subscribe`
 -- and `command_kill` of pulsecore/protocol-native.c).
-use Rattle.std.specs.Prelude.{ℕ, ◌/◌, ◌%◌, ◌^◌, Bool, not, cond, ◌||◌, nat_eq, nat_le, List, [], ◌∷◌, ◌++◌, codes, map, is_some, Option, None, Some, Ok}
+use Rattle.std.specs.Prelude.{ℕ, ◌/◌, ◌%◌, ◌^◌, min, Bool, not, cond, ◌||◌, nat_eq, nat_le, List, [], ◌∷◌, ◌++◌, codes, map, is_some, Option, None, Some, Ok}
 use Rattle.std.specs.List.{find}
 use Rattle.px_types.specs.declared.error_code.ErrorCode.TheVariants.{Access, BadState, Invalid, NoEntity, Version}
 use Rattle.px_tag.specs.PropList.{Property, updated}
@@ -21,25 +21,33 @@ use Rattle.px_ctl_info.specs.Properties.{text_under}
 
 -- ---- a client authenticates, and names itself
 
--- the version that the server speaks
+-- the greatest version that the server speaks
 abbrev pub SERVER_VERSION : ℕ
-SERVER_VERSION = 13
+SERVER_VERSION = 18
+
+-- the least version that it accepts
+abbrev pub LEAST_VERSION : ℕ
+LEAST_VERSION = 13
 
 -- the version that a client names: the upper half of the number offers shared memory
 abbrev pub version_in : ℕ → ℕ
 version_in version = version % 2 ^ 16
 
--- a connection's AUTH is accepted
-abbrev pub let_in : {M G : Type 0} → Connection → ℕ → OutcomeParts M G
-let_in me tag = replied (reply_to tag ++ number SERVER_VERSION) (Authed me.conn SERVER_VERSION ∷ [])
+-- the version that both speak
+abbrev pub common_version : ℕ → ℕ
+common_version version = min SERVER_VERSION (version_in version)
+
+-- a connection's AUTH is accepted: the reply has the server's version
+abbrev pub let_in : {M G : Type 0} → Connection → ℕ → ℕ → OutcomeParts M G
+let_in me tag version = replied (reply_to tag ++ number SERVER_VERSION) (Authed me.conn (common_version version) ∷ [])
 
 -- AUTH: refused after a successful one, then for an old version, then for another cookie
 abbrev pub auth : {M G : Type 0} → Naming → Connection → ℕ → ℕ → List ℕ → Handled (OutcomeParts M G)
 auth names me tag version cookie = do
   first ← check (not (is_some me.version)) BadState
-  spoken ← check (nat_le SERVER_VERSION (version_in version)) Version
+  spoken ← check (nat_le LEAST_VERSION (version_in version)) Version
   known ← check (same_text cookie names.cookie) Access
-  Ok (let_in me tag)
+  Ok (let_in me tag version)
 
 -- a client's list with each key of another list set
 abbrev pub list_with : Option Client → List Property → List Property

@@ -45,13 +45,13 @@ sink_of sink group = record {
 abbrev pub group_on : List FlatGroup → Target → Option FlatGroup
 group_on groups sink = slice_get groups sink.index.0
 
--- GET_SINK_INFO of the named sink
-abbrev pub sink_info : {M G : Type 0} → Named → List FlatGroup → ℕ → Handled (OutcomeParts M G)
-sink_info named groups tag = do
+-- GET_SINK_INFO of the named sink, at a version
+abbrev pub sink_info : {M G : Type 0} → Named → List FlatGroup → ℕ → ℕ → Handled (OutcomeParts M G)
+sink_info named groups version tag = do
   clear ← check (is_clear named) Invalid
   sink ← present (target_of named) NoEntity
   group ← present (group_on groups sink) NoEntity
-  Ok (replied (with_sink (reply_to tag) (sink_of sink group)) [])
+  Ok (replied (with_sink version (reply_to tag) (sink_of sink group)) [])
 
 -- a sink, where it has a group
 abbrev pub sinks_with : Target → Option FlatGroup → List SinkInfo
@@ -61,9 +61,9 @@ sinks_with sink (Some group) = sink_of sink group ∷ []
 abbrev pub sink_info_list : List FlatGroup → List Target → List SinkInfo
 sink_info_list groups sinks = flat_map (λ s. sinks_with s (group_on groups s)) sinks
 
--- GET_SINK_INFO_LIST
-abbrev pub sink_infos : {M G : Type 0} → List Target → List FlatGroup → ℕ → Handled (OutcomeParts M G)
-sink_infos sinks groups tag = Ok (replied (sinks_reply tag (sink_info_list groups sinks)) [])
+-- GET_SINK_INFO_LIST, at a version
+abbrev pub sink_infos : {M G : Type 0} → List Target → List FlatGroup → ℕ → ℕ → Handled (OutcomeParts M G)
+sink_infos sinks groups version tag = Ok (replied (sinks_reply version tag (sink_info_list groups sinks)) [])
 
 -- ---- sink inputs, each as a member of its sink's group, and with its property list
 

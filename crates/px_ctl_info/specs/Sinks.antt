@@ -42,8 +42,8 @@ set_default_sink names tag name = do
 abbrev pub server_of : Target → ServerInfo
 server_of sink = record { spec = raw_of sink.spec; name = sink.name; map = sink.map }
 
--- GET_SERVER_INFO, where `named` is the default sink
-abbrev pub server_info : {M G : Type 0} → Named → ℕ → Handled (OutcomeParts M G)
-server_info named tag = do
+-- GET_SERVER_INFO at a version, where `named` is the default sink
+abbrev pub server_info : {M G : Type 0} → Named → ℕ → ℕ → Handled (OutcomeParts M G)
+server_info named version tag = do
   sink ← present (target_of named) NoEntity
-  Ok (replied (server_reply tag (server_of sink)) [])
+  Ok (replied (server_reply version tag (server_of sink)) [])

@@ -7,20 +7,34 @@ ghost use Rattle.px_tag.specs.PropList.{updated};
 ghost use Rattle.px_tag.specs.declared.mode.Mode.TheVariants.{Replace};
 ghost use Rattle.px_outcome.specs.declared.change.Change.TheVariants.{Named};
 ghost use Rattle.px_outcome.specs.Handled.{HandledAs};
-ghost use Rattle.px_ctl_info.specs.Clients.{SERVER_VERSION, version_in, let_in, auth, list_with, set_client_name, is_mask, subscribe};
+ghost use Rattle.px_ctl_info.specs.Clients.{LEAST_VERSION, version_in, common_version, let_in, auth, list_with, set_client_name, is_mask, subscribe};
 
 use px_names::{Client, Names};
 use px_outcome::{Change, Connection, Refusal, StepOutcome, check};
 use px_tag::{Mode, PropList};
 use px_types::ErrorCode;
-use px_types::limits::PROTOCOL_VERSION;
+use px_types::limits::{LEAST_PROTOCOL_VERSION, PROTOCOL_VERSION};
 use std::alloc::Global;
 
-// Whether the server speaks a version that a client names.
-fn is_spoken(version: u32) -> bool
-    ensures { result ≡ nat_le SERVER_VERSION (version_in version) }
+// The version that a client names: the upper half of the number offers shared memory.
+fn version_in(version: u32) -> u16
+    ensures { result ≡ version_in version }
 {
-    version % 0x1_0000 >= u32::from(PROTOCOL_VERSION)
+    (version % 0x1_0000) as u16
+}
+
+// Whether the server accepts the version that a client names.
+fn is_spoken(version: u32) -> bool
+    ensures { result ≡ nat_le LEAST_VERSION (version_in version) }
+{
+    version_in(version) >= LEAST_PROTOCOL_VERSION
+}
+
+// The version that the server and the client both speak.
+fn common_version(version: u32) -> u16
+    ensures { result ≡ common_version version }
+{
+    version_in(version).min(PROTOCOL_VERSION)
 }
 
 // Accepts a connection's AUTH.
@@ -28,17 +42,19 @@ fn let_in<M: Drop, G: Drop>(
     alloc: Global,
     me: &Connection,
     tag: u32,
+    version: u32,
 ) -> Result<StepOutcome<M, G>, Refusal>
-    ensures { HandledAs result (Ok (let_in me.now tag)) }
+    ensures { HandledAs result (Ok (let_in me.now tag version)) }
 {
     let reply = px_reply::auth(alloc, tag, u32::from(PROTOCOL_VERSION))?;
     let mut changes = Vec::new(alloc);
-    changes.push(Change::Authed(me.conn, PROTOCOL_VERSION))?;
+    changes.push(Change::Authed(me.conn, common_version(version)))?;
     Ok(StepOutcome::replied(alloc, reply, changes))
 }
 
-/// AUTH of a client that gives its version (the lower half of the number) and a cookie. Refused, by the first of these that
-/// holds: `BadState` after a successful one, `Version` below 13, `Access` for another cookie than the server's.
+/// AUTH of a client that gives its version (the lower half of the number) and a cookie. The reply has the server's version,
+/// 18; the connection's version is the lesser of the two. Refused, by the first of these that holds: `BadState` after a
+/// successful one, `Version` below 13, `Access` for another cookie than the server's.
 pub fn auth<M: Drop, G: Drop>(
     alloc: Global,
     names: &Names,
@@ -52,7 +68,7 @@ pub fn auth<M: Drop, G: Drop>(
     check(me.version.is_none(), ErrorCode::BadState)?;
     check(is_spoken(version), ErrorCode::Version)?;
     check(names.cookie_fits(cookie), ErrorCode::Access)?;
-    let_in(alloc, me, tag)
+    let_in(alloc, me, tag, version)
 }
 
 // A copy of `list` with each key of `by` set.

@@ -23,7 +23,6 @@ use px_names::InputLists;
 use px_outcome::{Input, Named, Refusal, Standing, StepOutcome, Target, check, present, raw_of};
 use px_reply::{InputInfo, SinkInfo};
 use px_tag::{PropList, RawMap, RawVolume};
-use px_types::limits::PROTOCOL_VERSION;
 use px_types::{ErrorCode, InputId, Mem, NoMemory, Text};
 use std::alloc::Global;
 
@@ -57,33 +56,35 @@ fn sink_reply<M: Drop, G: Drop>(
     alloc: Global,
     sink: &Target,
     group: &Group,
+    version: u16,
     tag: u32,
 ) -> Result<StepOutcome<M, G>, Refusal>
     requires { IsTarget sink.now }
-    ensures { HandledAs result (Ok (replied (with_sink (reply_to tag) (sink_of sink.now group.now)) [])) }
+    ensures { HandledAs result (Ok (replied (with_sink version (reply_to tag) (sink_of sink.now group.now)) [])) }
 {
     let info = sink_of(alloc, sink, group)?;
-    let reply = px_reply::sink_info(alloc, tag, PROTOCOL_VERSION, &info)?;
+    let reply = px_reply::sink_info(alloc, tag, version, &info)?;
     Ok(StepOutcome::replied(alloc, reply, Vec::new(alloc)))
 }
 
-/// GET_SINK_INFO of the named sink, where each sink has the group of its index. Refused: `Invalid` where index and name
-/// don't select one sink, then `NoEntity` where it doesn't exist.
+/// GET_SINK_INFO of the named sink at a client's version, where each sink has the group of its index. Refused: `Invalid`
+/// where index and name don't select one sink, then `NoEntity` where it doesn't exist.
 pub fn sink_info<M: Drop, G: Drop>(
     alloc: Global,
     named: Named,
     groups: &[Group],
+    version: u16,
     tag: u32,
 ) -> Result<StepOutcome<M, G>, Refusal>
     requires { IsNamed named }
-    ensures { HandledAs result (sink_info named groups.now tag) }
+    ensures { HandledAs result (sink_info named groups.now version tag) }
 {
     check(named.is_clear(), ErrorCode::Invalid)?;
     let sink = present(named.target(), ErrorCode::NoEntity)?;
     let Some(group) = group_on(groups, &sink) else {
         return Err(Refusal::Code(ErrorCode::NoEntity));
     };
-    sink_reply(alloc, &sink, group, tag)
+    sink_reply(alloc, &sink, group, version, tag)
 }
 
 // Adds the info of one more sink.
@@ -112,18 +113,19 @@ pub fn sink_info_list(alloc: Global, sinks: &[Target], groups: &[Group]) -> Mem<
     Ok(infos)
 }
 
-/// GET_SINK_INFO_LIST: these sinks in their order, each with the group of its index.
+/// GET_SINK_INFO_LIST at a client's version: these sinks in their order, each with the group of its index.
 pub fn sink_infos<M: Drop, G: Drop>(
     alloc: Global,
     sinks: &[Target],
     groups: &[Group],
+    version: u16,
     tag: u32,
 ) -> Result<StepOutcome<M, G>, Refusal>
     requires { All IsTarget sinks.now }
-    ensures { HandledAs result (sink_infos sinks.now groups.now tag) }
+    ensures { HandledAs result (sink_infos sinks.now groups.now version tag) }
 {
     let infos = sink_info_list(alloc, sinks, groups)?;
-    let reply = px_reply::sink_infos(alloc, tag, PROTOCOL_VERSION, infos.as_slice())?;
+    let reply = px_reply::sink_infos(alloc, tag, version, infos.as_slice())?;
     Ok(StepOutcome::replied(alloc, reply, Vec::new(alloc)))
 }
 

@@ -76,15 +76,15 @@ pub fn server_of(alloc: Global, sink: &Target) -> Mem<ServerInfo>
     })
 }
 
-/// GET_SERVER_INFO, where `named` is the default sink. Refused: `NoEntity` where there is none.
+/// GET_SERVER_INFO at a client's version, where `named` is the default sink. Refused: `NoEntity` where there is none.
 pub fn server_info<M: Drop, G: Drop>(
     alloc: Global,
     named: Named,
-    tag: u32,
     version: u16,
+    tag: u32,
 ) -> Result<StepOutcome<M, G>, Refusal>
     requires { IsNamed named }
-    ensures { HandledAs result (server_info named tag) }
+    ensures { HandledAs result (server_info named version tag) }
 {
     let sink = present(named.target(), ErrorCode::NoEntity)?;
     let info = server_of(alloc, &sink)?;

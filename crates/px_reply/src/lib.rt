@@ -1,5 +1,5 @@
-//! The packets that the server sends, at version 13: replies, errors, messages and infos, each its fields in
-//! their spelling.
+//! The packets that the server sends: replies, errors, messages and infos, each its fields in their spelling. Infos of
+//! sinks and of the server have the fields of the client's version of the protocol.
 #![tactic(auto)]
 
 mod info;
