@@ -43,6 +43,7 @@ from words import NONE, line_of
 
 WORD = (1 << 32) - 1
 LAST = 1 << 60  # the greatest index of a frame, and the least below 0
+LEAST_VERSION, SERVER_VERSION = 13, 18
 CONTROLS = ("drain", "latency", "cork", "flush", "trigger", "prebuf", "attributes")
 
 
@@ -397,12 +398,12 @@ class Server:
     def do_auth(self, conn, tag, values):
         if self.clients[conn].known:
             return self.error(conn, tag, 15)
-        if values[0] & 0xFFFF < 13:
+        if values[0] & 0xFFFF < LEAST_VERSION:
             return self.error(conn, tag, 17)
         if values[1] != self.cookie:
             return self.error(conn, tag, 1)
         self.clients[conn].known = True
-        return self.send(conn, 2, tag, wire.number(13))
+        return self.send(conn, 2, tag, wire.number(SERVER_VERSION))
 
     def do_name(self, conn, tag, values):
         client = self.clients[conn]

@@ -22,8 +22,8 @@ class Outputs(unittest.TestCase):
 
     def test_stored_output(self):
         stored = contents("crates", "pulse_rw", "stdout")
-        self.assertEqual(output.show(stored), ("sent 1 reply tag 0 number 13\nend\n", None))
-        self.assertEqual(output.show(stored, self.SESSION), ("sent 1 reply tag 0 auth version 13\nend\n", None))
+        self.assertEqual(output.show(stored), ("sent 1 reply tag 0 number 18\nend\n", None))
+        self.assertEqual(output.show(stored, self.SESSION), ("sent 1 reply tag 0 auth version 18\nend\n", None))
 
     def test_records(self):
         data = (
