@@ -9,6 +9,7 @@
   conformance/reckon.py --moves NUMBER TURNS > SESSION.session    streams of two clients that move between three sinks, with dice
   conformance/reckon.py --lanes NUMBER TURNS > SESSION.session    streams that come, are told everything, move and leave, with dice
   conformance/reckon.py --volumes NUMBER CALLS > SESSION.session  volumes and mutes of a sink and its streams, with dice
+  conformance/reckon.py --volumes-18 NUMBER CALLS > SESSION.session     the same at version 18: volumes that are set, that aren't, and relative ones
   conformance/reckon.py --full > SESSION.session                  as many sinks as there can be, with as many streams in all
   conformance/reckon.py --crowded > SESSION.session               a sink with as many streams as there can be, and others that would move to it
   conformance/reckon.py --fronts > SESSION.session                each command cut off at each of its bytes, and with a byte too many
@@ -832,11 +833,11 @@ def thrown_moves(number, turns):
     return "\n".join([*said, *lines[:3], "", *taken(lines, dice), "end", ""])
 
 
-def thrown_volumes(number, count):
-    """Calls of every kind on the volumes of a sink and its streams, which come and go, with all infos behind every tenth."""
+def thrown_volumes(number, count, version=13):
+    """Calls of every kind on the volumes of a sink and its streams, which come and go, with all infos after every tenth."""
     dice = random.Random(number)
     lines = [f"# Thrown with the dice of {number}: {count} calls on the volumes of a sink and its streams. Its output is conformance/reckon.py's.", ""]
-    lines += ["sink out s16le 2 48000 map 1,2 guard 10 depth 100", "", "connect 1", "auth 1 tag 0 version 13"]
+    lines += ["sink out s16le 2 48000 map 1,2 guard 10 depth 100", "", "connect 1", f"auth 1 tag 0 version {version}"]
     maps, there, made = {1: ("0",), 2: ("1,2", "2,1")}, {}, 0
     volumes = lambda channels: ",".join(str(dice.choice((0, 1, 100, 32768, 65535, 65536, 65537, 80000, 0x7FFFFFFF, dice.randrange(1 << 17)))) for _ in range(channels))
     for call in range(count):
@@ -844,6 +845,7 @@ def thrown_volumes(number, count):
         if kind == "create" or not there:
             channels = dice.choice((1, 2))
             lines.append(f"create 1 s16le {channels} 48000 map {dice.choice(maps[channels])} volume {volumes(dice.choice((1, channels)))}{dice.choice(('', '', ' muted'))}")
+            lines[-1] += dice.choice(("", " volume_set off", " relative_volume", " volume_set off relative_volume")) if version == 18 else ""
             there[made], made = channels, made + 1
         elif kind == "delete" and len(there) > 2:
             lines.append(f"delete 1 stream {(gone := dice.choice(sorted(there)))}")
@@ -936,7 +938,7 @@ def collected(lines, dice):
 
 
 THROWS = {
-    "--dice": thrown, "--life": thrown_life, "--sinks": thrown_sinks, "--moves": thrown_moves, "--volumes": thrown_volumes, "--lanes": thrown_lanes,
+    "--dice": thrown, "--life": thrown_life, "--sinks": thrown_sinks, "--moves": thrown_moves, "--volumes": thrown_volumes, "--volumes-18": lambda *dice: thrown_volumes(*dice, 18), "--lanes": thrown_lanes,
 }
 
 
