@@ -156,7 +156,7 @@ class Lengths(unittest.TestCase):
 class Accounts(unittest.TestCase):
     def test_as_the_reckoner_has_it(self):
         """After each turn sinks and streams stand where the reckoner has them, though turns leave messages waiting."""
-        for row in ("reckoned/dice_7", "reckoned/life_7", "sinks/sinks_7", "moves/moves_11", "moves/many_waiting"):
+        for row in ("reckoned/dice_7", "reckoned/life_7", "sinks/sinks_7", "moves/moves_11", "moves/many_waiting", "versions/followed"):
             session = make(text_of("conformance", *f"{row}.session".split("/")))
             _, sinks, events = read_session(session)
             server, wanted, came = RECKON["Server"](bytes(256), sinks), [], []

@@ -212,7 +212,10 @@ class Shown(unittest.TestCase):
         self.assertEqual(show(make(text)), text)
 
     def test_examples(self):
-        for name in ("auth", "late_data", "two_clients"):
+        """Those made by hand and those recorded from clients, at 13 and at 18."""
+        names = sorted(name[: -len(".txt")] for name in os.listdir(os.path.join(TOP, "examples")) if name.endswith(".txt"))
+        self.assertEqual(len(names), 10)
+        for name in names:
             session = contents("examples", name + ".prs")
             self.assertEqual(make(contents("examples", name + ".txt").decode()), session)
             self.assertLess(len(session), 300_000)
