@@ -1,11 +1,12 @@
-"""A client that speaks the protocol by itself, for conformance/live: in version 13, with stereo sound in S16LE."""
+"""A client that speaks the protocol by itself, for conformance/live: in a version from 13 to 18, with stereo sound in S16LE."""
 
 import socket
 
 import wire
 
 REPLY, CREATE, AUTH, SET_NAME, DRAIN, SERVER_INFO, CLIENT_INFO = 2, 3, 8, 9, 12, 20, 27
-VERSION = 13
+VERSION = 18
+LATER = (14, 14, 15, 15, 15, 17, 18)  # the versions from which on CREATE has a further bool at its end
 UNSET = 0xFFFFFFFF  # no index, or a size that the server chooses
 RATE = 48_000
 
@@ -18,7 +19,8 @@ def packet(command, tag, *fields):
 class Client:
     """A connection to the server at a socket. A call that waits longer than `patience` seconds raises TimeoutError."""
 
-    def __init__(self, path, patience):
+    def __init__(self, path, patience, version=VERSION):
+        self.version = version
         self.socket = socket.socket(socket.AF_UNIX)
         self.socket.settimeout(patience)
         self.socket.connect(path)
@@ -65,14 +67,15 @@ class Client:
         raise ConnectionResetError(f"command {command} has no reply")
 
     def enter(self, cookie):
-        """Authenticates."""
-        self.ask(AUTH, wire.number(VERSION), wire.arbitrary(cookie))
+        """Authenticates, and answers the version that the server speaks."""
+        return self.ask(AUTH, wire.number(self.version), wire.arbitrary(cookie)).number()
 
     def play(self, sink, sound):
         """Plays a sound on a sink, from its first frame on once all of it is there, and waits until it was played."""
         sizes = [wire.number(UNSET), wire.flag(False), *map(wire.number, (len(sound), len(sound), UNSET, UNSET))]
         switches = [wire.flag(False)] * 9
         kind = [wire.spec((3, 2, RATE)), wire.channel_map([1, 2]), wire.number(UNSET), wire.text(sink.encode())]
-        stream = self.ask(CREATE, *kind, *sizes, wire.volume([0x10000] * 2), *switches, wire.properties([])).number()
+        later = [wire.flag(False) for since in LATER if since <= self.version]
+        stream = self.ask(CREATE, *kind, *sizes, wire.volume([0x10000] * 2), *switches, wire.properties([]), *later).number()
         self.send(wire.frame_of(stream, 0, 0, sound))
         self.ask(DRAIN, wire.number(stream))

@@ -1,4 +1,4 @@
-"""Property lists, and what is told of sinks, sink inputs and clients at version 13."""
+"""Property lists, and what is told of the server, of sinks, sink inputs and clients, at each version from 13 to 18."""
 
 import wire
 from words import NONE
@@ -28,10 +28,20 @@ def name_in(properties, key):
     return value[:-1] if value.endswith(b"\0") and value.count(b"\0") == 1 else None
 
 
-def sink_info(index, sink, group):
+def server_info(version, sink):
+    """`sink` is the default sink."""
+    told = b"".join(map(wire.text, (b"pulse_rw", b"1", b"pulse", b"localhost"))) + wire.spec(sink.spec)
+    told += wire.text(sink.name) + wire.text(None) + wire.number(0)
+    return told + (wire.channel_map(sink.positions) if version >= 15 else b"")
+
+
+def sink_info(version, index, sink, group):
     told = wire.number(index) + wire.text(sink.name) * 2 + wire.spec(sink.spec) + wire.channel_map(sink.positions) + NOBODY
     told += wire.volume(group.reference) + wire.flag(group.muted) + NOBODY + wire.text(None)
-    return told + NO_TIME + DRIVER + wire.number(FLAGS) + wire.properties([]) + NO_TIME
+    told += NO_TIME + DRIVER + wire.number(FLAGS) + wire.properties([]) + NO_TIME
+    if version >= 15:  # a base volume of 65536, state 0, 65537 steps, no card
+        told += b"V" + (0x10000).to_bytes(4, "big") + wire.number(0) + wire.number(65537) + NOBODY
+    return told + (wire.number(0) + wire.text(None) if version >= 16 else b"")  # no ports, and none is active
 
 
 def input_info(index, sink, stream, member):

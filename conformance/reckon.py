@@ -9,6 +9,7 @@
   conformance/reckon.py --moves NUMBER TURNS > SESSION.session    streams of two clients that move between three sinks, with dice
   conformance/reckon.py --lanes NUMBER TURNS > SESSION.session    streams that come, are told everything, move and leave, with dice
   conformance/reckon.py --volumes NUMBER CALLS > SESSION.session  volumes and mutes of a sink and its streams, with dice
+  conformance/reckon.py --volumes-18 NUMBER CALLS > SESSION.session     the same at version 18: volumes that are set, that aren't, and relative ones
   conformance/reckon.py --full > SESSION.session                  as many sinks as there can be, with as many streams in all
   conformance/reckon.py --crowded > SESSION.session               a sink with as many streams as there can be, and others that would move to it
   conformance/reckon.py --fronts > SESSION.session                each command cut off at each of its bytes, and with a byte too many
@@ -37,7 +38,7 @@ import samples
 import volumes
 import wire
 from maker import make
-from packets import COMMANDS, read_packet
+from packets import NEWEST, OLDEST, fields_at, read_packet
 from recording import read_session
 from words import NONE, line_of
 
@@ -223,6 +224,7 @@ class Client:
         self.bytes = bytearray()
         self.gone = 0  # bytes that were read
         self.known = self.ended = False
+        self.version = OLDEST
         self.streams = {}
         self.made = 0
         self.properties = {}
@@ -378,9 +380,10 @@ class Server:
         self.post("write", number, (head.flags & 0xFF, head.offset // stream.size, frames))
 
     def packet(self, conn, packet):
-        client, read = self.clients[conn], read_packet(packet)
+        client = self.clients[conn]
+        read = read_packet(packet, client.version)
         if read is None:
-            over = read_packet(packet[:-1]) is not None
+            over = read_packet(packet[:-1], client.version) is not None
             return self.end(conn, 1, 9 if over else 7, client.gone - over)
         command, tag = wire.Items(packet), None
         command, tag = command.number(), int.from_bytes(packet[6:10], "big")
@@ -397,12 +400,12 @@ class Server:
     def do_auth(self, conn, tag, values):
         if self.clients[conn].known:
             return self.error(conn, tag, 15)
-        if values[0] & 0xFFFF < 13:
+        if values[0] & 0xFFFF < OLDEST:
             return self.error(conn, tag, 17)
         if values[1] != self.cookie:
             return self.error(conn, tag, 1)
-        self.clients[conn].known = True
-        return self.send(conn, 2, tag, wire.number(13))
+        self.clients[conn].known, self.clients[conn].version = True, min(values[0] & 0xFFFF, NEWEST)
+        return self.send(conn, 2, tag, wire.number(NEWEST))
 
     def do_name(self, conn, tag, values):
         client = self.clients[conn]
@@ -432,8 +435,12 @@ class Server:
             or len(volume) not in (1, channels) or max(volume) > 0x7FFFFFFF
         )
 
+    def asked(self, conn, word, values):
+        """The values of a packet's fields by their names; what stands last under no name is a property list."""
+        return dict(zip((name for name, _, _ in fields_at(word, self.clients[conn].version)), values))
+
     def do_create(self, conn, tag, values):
-        asked = dict(zip((name for name, _, _ in COMMANDS["create"][1]), values))
+        asked = self.asked(conn, "create", values)
         (code, channels, rate), positions = values[0], list(asked["map"])
         clear, place = self.named(asked["index"], asked["sink"], fallback=True)
         if self.cannot_be(values[0], positions, asked["volume"]) or not clear:
@@ -446,7 +453,7 @@ class Server:
         if asked["fix_channels"]:
             channels, positions = sink.spec[1], list(sink.positions)
         feed = samples.plan(positions, list(sink.positions), asked["no_remap"], asked["no_remix"])
-        if code in (5, 6) or asked["variable_rate"] or rate != sink.spec[2] or feed is None:
+        if code in (5, 6) or asked["variable_rate"] or rate != sink.spec[2] or asked.get("passthrough") or feed is None:
             return self.error(conn, tag, 19)
         going = [stream for stream in self.inputs.values() if not stream.leaving]
         if self.bound_for(place) >= 256 or len(going) >= 1024:
@@ -456,13 +463,14 @@ class Server:
         client, number = self.clients[conn], self.input_count
         stream = Stream(conn, client.made, place, spec, feed, frames, asked["corked"])
         self.inputs[number], client.streams[client.made] = stream, number
-        stream.client, stream.positions, stream.properties, stream.told = client.number, positions, infos.listed(values[-1]), frames
+        stream.client, stream.positions, stream.properties, stream.told = client.number, positions, infos.listed(asked[None]), frames
         stream.no_move, stream.no_remap, stream.no_remix = (asked[flag] for flag in ("no_move", "no_remap", "no_remix"))
         numbers = [client.made, number, lengths[1], *lengths]
         self.input_count += 1
         client.made += 1
-        volume = list(asked["volume"])
-        place.group.attach(number, volume if len(volume) in (1, channels) else [max(volume)], asked["muted"], feed)
+        volume, is_set = list(asked["volume"]), asked.get("volume_set", True)
+        given = [volumes.NORM] if not is_set else volume if len(volume) in (1, channels) else [max(volume)]
+        place.group.attach(number, given, asked["muted"], feed, not is_set or asked.get("relative_volume", False))
         stream.factors = place.group.factors(number)[number]
         place.waiting.append(("new", number, stream))
         self.regroup(place)
@@ -480,7 +488,7 @@ class Server:
             self.waiting.append((number, word, tag, *values[1:]))
             told, more, reply = ("drain" if word == "drain" else "query"), tag, None
         elif word == "attributes":
-            asked = dict(zip((name for name, _, _ in COMMANDS[word][1]), values))
+            asked = self.asked(conn, word, values)
             lengths, more = self.repaired(self.inputs[number].spec, asked)
             self.inputs[number].told = more
             reply = b"".join(map(wire.number, lengths)) + self.latency(self.inputs[number].sink)
@@ -587,9 +595,7 @@ class Server:
         return self.send(conn, 2, tag)
 
     def do_server_info(self, conn, tag, values):
-        sink = self.fallback.spec
-        fields = b"".join(map(wire.text, (b"pulse_rw", b"1", b"pulse", b"localhost"))) + wire.spec(sink.spec)
-        return self.send(conn, 2, tag, fields + wire.text(sink.name) + wire.text(None) + wire.number(0))
+        return self.send(conn, 2, tag, infos.server_info(self.clients[conn].version, self.fallback.spec))
 
     def tell(self, conn, tag, there, info):
         """What is told of what is there."""
@@ -599,8 +605,8 @@ class Server:
         """The inputs that haven't ended, in rising index."""
         return [number for number in sorted(self.inputs) if not self.inputs[number].leaving]
 
-    def sink_info(self, sink):
-        return infos.sink_info(sink.number, sink.spec, sink.group)
+    def sink_info(self, conn, sink):
+        return infos.sink_info(self.clients[conn].version, sink.number, sink.spec, sink.group)
 
     def input_info(self, number):
         stream = self.inputs[number]
@@ -608,10 +614,10 @@ class Server:
 
     def do_sink_info(self, conn, tag, values):
         clear, sink = self.named(*values)
-        return self.tell(conn, tag, sink, lambda: self.sink_info(sink)) if clear else self.error(conn, tag, 3)
+        return self.tell(conn, tag, sink, lambda: self.sink_info(conn, sink)) if clear else self.error(conn, tag, 3)
 
     def do_sink_infos(self, conn, tag, values):
-        self.send(conn, 2, tag, b"".join(map(self.sink_info, self.sinks)))
+        self.send(conn, 2, tag, b"".join(self.sink_info(conn, sink) for sink in self.sinks))
 
     def do_input_info(self, conn, tag, values):
         self.tell(conn, tag, self.going(values[0]), lambda: self.input_info(values[0]))
@@ -827,11 +833,11 @@ def thrown_moves(number, turns):
     return "\n".join([*said, *lines[:3], "", *taken(lines, dice), "end", ""])
 
 
-def thrown_volumes(number, count):
-    """Calls of every kind on the volumes of a sink and its streams, which come and go, with all infos behind every tenth."""
+def thrown_volumes(number, count, version=13):
+    """Calls of every kind on the volumes of a sink and its streams, which come and go, with all infos after every tenth."""
     dice = random.Random(number)
     lines = [f"# Thrown with the dice of {number}: {count} calls on the volumes of a sink and its streams. Its output is conformance/reckon.py's.", ""]
-    lines += ["sink out s16le 2 48000 map 1,2 guard 10 depth 100", "", "connect 1", "auth 1 tag 0 version 13"]
+    lines += ["sink out s16le 2 48000 map 1,2 guard 10 depth 100", "", "connect 1", f"auth 1 tag 0 version {version}"]
     maps, there, made = {1: ("0",), 2: ("1,2", "2,1")}, {}, 0
     volumes = lambda channels: ",".join(str(dice.choice((0, 1, 100, 32768, 65535, 65536, 65537, 80000, 0x7FFFFFFF, dice.randrange(1 << 17)))) for _ in range(channels))
     for call in range(count):
@@ -839,6 +845,7 @@ def thrown_volumes(number, count):
         if kind == "create" or not there:
             channels = dice.choice((1, 2))
             lines.append(f"create 1 s16le {channels} 48000 map {dice.choice(maps[channels])} volume {volumes(dice.choice((1, channels)))}{dice.choice(('', '', ' muted'))}")
+            lines[-1] += dice.choice(("", " volume_set off", " relative_volume", " volume_set off relative_volume")) if version == 18 else ""
             there[made], made = channels, made + 1
         elif kind == "delete" and len(there) > 2:
             lines.append(f"delete 1 stream {(gone := dice.choice(sorted(there)))}")
@@ -931,7 +938,7 @@ def collected(lines, dice):
 
 
 THROWS = {
-    "--dice": thrown, "--life": thrown_life, "--sinks": thrown_sinks, "--moves": thrown_moves, "--volumes": thrown_volumes, "--lanes": thrown_lanes,
+    "--dice": thrown, "--life": thrown_life, "--sinks": thrown_sinks, "--moves": thrown_moves, "--volumes": thrown_volumes, "--volumes-18": lambda *dice: thrown_volumes(*dice, 18), "--lanes": thrown_lanes,
 }
 
 

@@ -62,8 +62,11 @@ class Group:
             member.to_reference = [ratio_after(*it) for it in zip(member.to_reference, member.volume, member.fed(self.reference))]
         self.follow()
 
-    def attach(self, number, volume, muted, feed):
-        self.members[number] = Member(volume, muted, feed)
+    def attach(self, number, volume, muted, feed, relative):
+        """An input whose volume is as it is given, or that much of the reference volume."""
+        member = self.members[number] = Member(volume, muted, feed)
+        if relative:
+            member.volume = [multiply(*pair) for pair in zip(member.volume, member.fed(self.reference))]
         self.settle()
 
     def join(self, number, member, feed):

@@ -2,9 +2,9 @@
 
 import wire
 from course import Sink, Stream, Write
-from packets import COMMANDS, read_packet
+from packets import Spoken, fields_at
 from records import Records, whole_frames
-from replies import LISTS, MESSAGES, REPLIES
+from replies import LISTS, MESSAGES, reply_fields
 from words import NONE, Wrong, number_word, quoted
 
 CONTROLS = ("cork", "flush", "trigger", "prebuf", "drain", "latency", "attributes")
@@ -33,12 +33,12 @@ def fields_of(items, fields):
     return {name: read(items) for name, read in fields}
 
 
-def read_reply(word, items):
-    """The fields of a reply, or None where it isn't one to this command."""
+def read_reply(word, version, items):
+    """The fields of a reply, or None where it isn't one to this command at this version."""
     if word in LISTS:
         return {}
     try:
-        fields = fields_of(items, REPLIES.get(word, []))
+        fields = fields_of(items, reply_fields(word, version))
     except wire.Unread:
         return None
     return None if items.left() else fields
@@ -48,10 +48,10 @@ class Run:
     """A run: its sinks, its streams in the order in which they were made, and what ended its output early, or None."""
 
     def __init__(self, session, data):
-        _, specs, events = session
+        self.cookie, specs, events = session
         self.sinks = [Sink(*it) for it in enumerate(specs)]
         self.streams, self.owned, self.inputs = [], {}, {}
-        self.bytes, self.names, self.late = {}, {}, set()
+        self.bytes, self.names, self.late, self.spoken = {}, {}, set(), Spoken()
         self.fallback = self.sinks[0]
         self.segments, self.fault = segments(data, specs)
         self.segment = self.place = 0
@@ -72,6 +72,7 @@ class Run:
             self.hear_notices(event[3])
         elif kind == 1:
             self.bytes[which], self.names[which] = bytearray(), {}
+            self.spoken.connect(which)
             self.late = {key for key in self.late if key[0] != which}
         elif kind == 2:
             held = self.bytes.setdefault(which, bytearray())
@@ -126,7 +127,7 @@ class Run:
         records = self.segments[self.segment][0]
         for place in range(self.place, len(records)):
             number, told, items = self.head(records[place]) if records[place][:2] == (1, conn) else (None, None, None)
-            fields = read_reply(word, items) if number == 2 and told == tag else None
+            fields = read_reply(word, self.spoken.of(conn), items) if number == 2 and told == tag else None
             if fields is not None or (number == 0 and told == tag):
                 for record in records[self.place : place]:
                     self.hear(record)
@@ -161,7 +162,7 @@ class Run:
 
     def frame(self, conn, descriptor, payload):
         if descriptor.channel == wire.CONTROL:
-            read = read_packet(payload)
+            read = self.spoken.hear(conn, payload, self.cookie)
             if read:
                 self.command(conn, *read)
             return
@@ -173,7 +174,7 @@ class Run:
         self.post(stream, "write", write, seek, descriptor.offset // stream.size)
 
     def command(self, conn, word, tag, values):
-        asked = dict(zip((name for name, _, _ in COMMANDS[word][1]), values))
+        asked = dict(zip((name for name, _, _ in fields_at(word, self.spoken.of(conn))), values))
         if word in ("drain", "latency"):  # their replies come later, if a stream is there
             self.late.add((conn, tag))
             return self.control(conn, word, asked, None)

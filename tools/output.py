@@ -52,8 +52,8 @@ def sound_words(spec, sound):
 
 def show(data, session=None):
     """The lines of an output, and what ended it early, or None."""
-    sinks, events = session[1:] if session else (None, [])
-    records, asked, said = Records(data, sinks), Asked(events), []
+    cookie, sinks, events = session or (None, None, [])
+    records, asked, said = Records(data, sinks), Asked(cookie, events), []
     try:
         for record in records:
             said.append(told(record, sinks, asked))

@@ -1,4 +1,4 @@
-"""The commands that clients send, as packets and as words."""
+"""The commands that clients send, as packets and as words, at each version of the protocol from 13 to 18."""
 
 import wire
 from words import (
@@ -7,6 +7,7 @@ from words import (
 from wire import FORMATS, Items, Unread
 
 SHM, MEMFD = 0x80000000, 0x40000000
+OLDEST, NEWEST = 13, 18  # the versions that the server speaks
 
 
 class Kind:
@@ -161,12 +162,17 @@ def flags(names):
     return [(name, FLAG, False) for name in names.split()]
 
 
+def follows(field):
+    """A bool that is on, where it isn't said, just if a line says another field."""
+    return lambda scene, said: field in said
+
+
 LIST = (None, PROPERTIES, [])
 STREAM = number("stream")
 SINK = [number("index", NONE), ("sink", TEXT, None)]
 REMIXING = "no_remap no_remix fix_format fix_rate fix_channels no_move variable_rate muted adjust_latency"
 
-# Each command's word with its number and its fields: the field's name, its kind and what it is where it isn't said.
+# Each command's word with its number and its fields at version 13: the field's name, its kind and what it is where it isn't said.
 COMMANDS = {
     "create": (3, [
         (None, SPEC, NEEDED), ("map", MAP, NEEDED), *SINK, number("maxlength", NONE), *flags("corked"),
@@ -174,7 +180,7 @@ COMMANDS = {
         ("volume", VOLUME, [65536]), *flags(REMIXING), LIST,
     ]),
     "delete": (4, [STREAM]),
-    "auth": (8, [("version", VERSION, NEEDED), ("cookie", COOKIE, lambda scene: scene.cookie)]),
+    "auth": (8, [("version", VERSION, NEEDED), ("cookie", COOKIE, lambda scene, said: scene.cookie)]),
     "name": (9, [LIST]),
     "lookup-sink": (10, [("sink", TEXT, None)]),
     "drain": (12, [STREAM]),
@@ -215,6 +221,44 @@ COMMANDS = {
     "card-infos": (89, []),
 }
 NUMBERS = {code: word for word, (code, _) in COMMANDS.items()}
+# What each later version adds at the end of a command's fields.
+LATER = {
+    "create": [
+        (14, [("volume_set", SWITCH, follows("volume")), *flags("early_requests")]),
+        (15, [("muted_set", SWITCH, follows("muted")), *flags("dont_inhibit_auto_suspend fail_on_suspend")]),
+        (17, flags("relative_volume")),
+        (18, flags("passthrough")),
+    ],
+    "attributes": [(14, flags("early_requests"))],
+}
+
+
+def fields_at(word, version):
+    """The fields of a command at a version."""
+    later = [field for since, more in LATER.get(word, []) if since <= version for field in more]
+    return COMMANDS[word][1] + later
+
+
+class Spoken:
+    """The version that each connection speaks: 13 until an AUTH of it is taken, then the lesser of 18 and what that one names."""
+
+    def __init__(self):
+        self.versions = {}
+
+    def connect(self, conn):
+        self.versions.pop(conn, None)
+
+    def of(self, conn):
+        return self.versions.get(conn, OLDEST)
+
+    def hear(self, conn, packet, cookie):
+        """The packet as its connection speaks, or None where it can't be read so; `cookie` is the server's."""
+        read = read_packet(packet, self.of(conn))
+        if read and read[0] == "auth" and conn not in self.versions:
+            named, given = read[2][0] & 0xFFFF, read[2][1]
+            if named >= OLDEST and given == cookie:
+                self.versions[conn] = min(named, NEWEST)
+        return read
 
 
 def field_for(fields, given, word):
@@ -231,47 +275,63 @@ def field_for(fields, given, word):
 
 
 def hear_command(word, words, scene, conn):
-    """The packet of a line: the command's word was taken, and the connection behind it."""
-    code, fields = COMMANDS[word]
-    tag, given = None, {}
+    """The packet of a line: the command's word was taken, and the connection after it."""
+    code, fields = COMMANDS[word][0], fields_at(word, NEWEST)
+    tag, version, given = None, None, {}
     while words.peek() is not None:
         if words.takes("tag"):
             if tag is not None:
                 raise Wrong("tag is said twice")
             tag = number_of(words.take("the tag"), "a tag")
             continue
+        if words.takes("at"):
+            if version is not None:
+                raise Wrong("at is said twice")
+            version = number_of(words.take("the version"), "a packet's version", OLDEST, NEWEST)
+            continue
         at, named = field_for(fields, given, words.peek())
         words.at += 1 if named else 0
         given[at] = fields[at][1].hear(words)
+    version = scene.version(conn) if version is None else version
+    count, said = len(fields_at(word, version)), {fields[at][0] for at in given}
+    for at in given:
+        if at >= count:
+            raise Wrong(f"{fields[at][0]} is no field of this command at version {version}")
     packet = wire.number(code) + wire.number(scene.tag(conn) if tag is None else tag)
-    for at, (name, kind, default) in enumerate(fields):
+    for at, (name, kind, default) in enumerate(fields[:count]):
         if at not in given and default is NEEDED:
             raise Wrong(f"{name or kind.what} is missing")
         value = given.get(at, default)
-        packet += kind.spell(value(scene) if callable(value) else value)
+        packet += kind.spell(value(scene, said) if callable(value) else value)
     return packet
 
 
-def read_packet(packet):
-    """The command's word, the tag and the values of the fields, or None where the table hasn't such a packet."""
+def read_packet(packet, version):
+    """The command's word, the tag and the values of the fields, or None where a version hasn't such a packet."""
     items = Items(packet)
     try:
         word, tag = NUMBERS[items.number()], items.number()
-        values = [kind.read(items) for _, kind, _ in COMMANDS[word][1]]
+        values = [kind.read(items) for _, kind, _ in fields_at(word, version)]
     except (Unread, KeyError):
         return None
     return None if items.left() else (word, tag, values)
 
 
 def say_packet(packet, scene, conn):
-    """The words of a packet, or None where it has none."""
-    read = read_packet(packet)
-    if read is None:
+    """The words of a packet, or None where it has none: at its connection's version, else at the first one that has it."""
+    own = scene.version(conn)
+    for version in (own, *range(OLDEST, NEWEST + 1)):
+        read = read_packet(packet, version)
+        if read:
+            break
+    else:
         return None
     word, tag, values = read
-    said = [word, str(conn), "tag", str(tag)]
-    for (name, kind, default), value in zip(COMMANDS[word][1], values):
-        if value == (default(scene) if callable(default) else default):
+    said, names = [word, str(conn), "tag", str(tag)], set()
+    said += [] if version == own else ["at", str(version)]
+    for (name, kind, default), value in zip(fields_at(word, version), values):
+        if value == (default(scene, names) if callable(default) else default):
             continue
+        names.add(name)
         said += ([name] if name else []) + kind.say(value)
     return said

@@ -126,7 +126,7 @@ def read_session(data):
     return cookie, sinks, events
 
 class Scene:
-    """What the lines of a session speak of: the cookie, the sinks, and each connection's tags and streams.
+    """What the lines of a session speak of: the cookie, the sinks, and each connection's version, tags and streams.
 
     The streams of a connection are counted as if the server took each CREATE_PLAYBACK_STREAM."""
 
@@ -136,13 +136,18 @@ class Scene:
         self.tags = {}
         self.streams = {}
         self.sent = {}
+        self.spoken = packets.Spoken()
 
     def connect(self, conn):
+        self.spoken.connect(conn)
         self.tags[conn] = 0
         self.streams[conn] = []
 
     def tag(self, conn):
         return self.tags.get(conn, 0)
+
+    def version(self, conn):
+        return self.spoken.of(conn)
 
     def spec(self, conn, stream):
         specs = self.streams.get(conn, [])
@@ -165,7 +170,7 @@ class Scene:
             return
         if payload[:1] == b"L" and payload[5:6] == b"L" and len(payload) >= 10:
             self.tags[conn] = int.from_bytes(payload[6:10], "big") + 1 & 0xFFFFFFFF
-        read = packets.read_packet(payload)
+        read = self.spoken.hear(conn, payload, self.cookie)
         if read and read[0] == "create":
             self.create(conn, read[2])
 

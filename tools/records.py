@@ -1,7 +1,7 @@
 """The records of an output one by one, and the frames that clients sent in the session that was replayed."""
 
 import wire
-from packets import read_packet
+from packets import Spoken
 from recording import Place
 from words import Wrong
 
@@ -19,25 +19,26 @@ def whole_frames(data):
 
 
 class Asked:
-    """The commands of each connection by their tags, from the session that was replayed."""
+    """The commands of each connection by their tags, with the version that it spoke, from the session that was replayed."""
 
-    def __init__(self, events):
+    def __init__(self, cookie, events):
         self.commands = {}
-        held = {}
+        held, spoken = {}, Spoken()
         for event in events:
             if event[0] == 1:
                 held[event[1]] = bytearray()
+                spoken.connect(event[1])
             elif event[0] == 2:
                 data = held.setdefault(event[1], bytearray())
                 data += event[2]
                 for descriptor, payload in whole_frames(data):
                     if descriptor.channel == wire.CONTROL:
-                        self.note(event[1], read_packet(payload))
+                        self.note(event[1], spoken.hear(event[1], payload, cookie), spoken.of(event[1]))
 
-    def note(self, conn, read):
+    def note(self, conn, read, version):
         if read:
-            commands = self.commands.setdefault((conn, read[1]), [])
-            commands += [] if read[0] in commands else [read[0]]
+            commands, command = self.commands.setdefault((conn, read[1]), []), (read[0], version)
+            commands += [] if command in commands else [command]
 
     def of(self, conn):
         return lambda tag: self.commands.get((conn, tag), [])

@@ -1,7 +1,7 @@
-"""What the server sends to clients, as words: replies, errors and messages at version 13."""
+"""What the server sends to clients, as words: replies, errors and messages, at each version of the protocol from 13 to 18."""
 
 import wire
-from packets import FLAG, MAP, NUMBERS, PROPERTIES, SPEC, TEXT, TIME, VOLUME, Kind, commas, say_properties
+from packets import FLAG, MAP, NEWEST, NUMBERS, OLDEST, PROPERTIES, SPEC, TEXT, TIME, VOLUME, Kind, commas, say_properties
 from words import NONE, hex_words, number_word, quoted
 from wire import Items, Unread
 
@@ -29,7 +29,7 @@ CLIENT_INFO = [
     ("client", NUMBER), ("name", TEXT), ("module", NUMBER), ("driver", TEXT), ("properties", PROPERTIES),
 ]
 
-# The fields of each reply, by the command that it answers. A reply that isn't here has no fields.
+# The fields of each reply at version 13, by the command that it answers. A reply that isn't here has no fields.
 REPLIES = {
     "create": [
         ("stream", NUMBER), ("input", NUMBER), ("wanted", NUMBER), *ATTRIBUTES, ("spec", SPEC), ("map", MAP),
@@ -52,7 +52,16 @@ REPLIES = {
     "lookup-sink": [("index", NUMBER)],
 }
 LISTS = {"sink-infos": SINK_INFO, "input-infos": INPUT_INFO, "client-infos": CLIENT_INFO}
-SHAPES = ["create", "latency", "attributes", "server-info"]  # no other reply has these kinds of fields
+# What later versions add at the end of what is told.
+SINK_INFO_LATER = [
+    (15, [("base", Items.base), ("state", NUMBER), ("steps", NUMBER), ("card", NUMBER)]),
+    (16, [("ports", NUMBER), ("port", TEXT)]),
+]
+LATER = {"sink-info": SINK_INFO_LATER, "sink-infos": SINK_INFO_LATER, "server-info": [(15, [("map", MAP)])]}
+# No other reply has these kinds of fields.
+SHAPES = [
+    ("create", OLDEST), ("latency", OLDEST), ("attributes", OLDEST), ("server-info", OLDEST), ("server-info", NEWEST),
+]
 
 MESSAGES = {
     61: ("request", [("stream", NUMBER), ("bytes", NUMBER)]),
@@ -93,21 +102,28 @@ def fields_words(items, fields):
     return said
 
 
-def reply_words(items, command):
-    """The words of a reply's fields, read as the answer to this command."""
+def reply_fields(command, version):
+    """The fields of the reply to a command at a version, or of each thing in it where it is a list."""
+    later = [field for since, more in LATER.get(command, []) if since <= version for field in more]
+    return [*LISTS.get(command, REPLIES.get(command, [])), *later]
+
+
+def reply_words(items, command, version):
+    """The words of a reply's fields, read as the answer to this command at this version."""
+    fields = reply_fields(command, version)
     if command in LISTS:
         said = []
         while items.left():
-            said += ["/"] * bool(said) + fields_words(items, LISTS[command])
+            said += ["/"] * bool(said) + fields_words(items, fields)
     else:
-        said = fields_words(items, REPLIES.get(command, []))
+        said = fields_words(items, fields)
     if items.left():
         raise Unread
     return [command, *said]
 
 
 def sent_words(packet, asked):
-    """The words of a packet that the server sent; `asked(tag)` gives the commands of that tag, where they are known."""
+    """The words of a packet that the server sent; `asked(tag)` gives the commands of that tag and their versions, where they are known."""
     items = Items(packet)
     try:
         number, tag = items.number(), items.number()
@@ -116,10 +132,10 @@ def sent_words(packet, asked):
     front = items.at
     if number == 2:
         commands = asked(tag)
-        for command in commands or SHAPES:
+        for command, version in commands or SHAPES:
             items.at = front
             try:
-                return ["reply", "tag", str(tag), *reply_words(items, command)]
+                return ["reply", "tag", str(tag), *reply_words(items, command, version)]
             except Unread:
                 pass
         return ["reply", "tag", str(tag), *plain_words(packet[front:])]

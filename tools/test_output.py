@@ -8,7 +8,7 @@ import output
 import wire
 from maker import make
 from recording import read_session
-from test_session import AUTH_TEXT, CREATE_TEXT, contents
+from test_session import AUTH_TEXT, CREATE_TEXT, FRONT, SINK, contents
 from words import Wrong
 
 
@@ -22,8 +22,8 @@ class Outputs(unittest.TestCase):
 
     def test_stored_output(self):
         stored = contents("crates", "pulse_rw", "stdout")
-        self.assertEqual(output.show(stored), ("sent 1 reply tag 0 number 13\nend\n", None))
-        self.assertEqual(output.show(stored, self.SESSION), ("sent 1 reply tag 0 auth version 13\nend\n", None))
+        self.assertEqual(output.show(stored), ("sent 1 reply tag 0 number 18\nend\n", None))
+        self.assertEqual(output.show(stored, self.SESSION), ("sent 1 reply tag 0 auth version 18\nend\n", None))
 
     def test_records(self):
         data = (
@@ -90,9 +90,33 @@ class Outputs(unittest.TestCase):
             ("lookup-sink 1 sink out", "4c00000002", "index 2"),
             ("flush 1 stream 0", "", ""),
         ):
-            session = read_session(make(AUTH_TEXT + line + " tag 5\nend\n"))
+            session = read_session(make(FRONT + line + " tag 5\nend\n"))
             said = output.show(sent(1, "4c00000002" "4c00000005" + fields) + b"\0", session)[0].replace(" \\\n   ", "")
             self.assertEqual(said, f"sent 1 reply tag 5 {line.split()[0]} {words}".rstrip() + "\nend\n")
+
+    def test_replies_of_later_versions(self):
+        """What is told of a sink and of the server grows at 15 and at 16; it is read by the version of its connection, also of one that comes again."""
+        server = "7470756c73655f727700743100" "7470756c736500" "746c6f63616c686f737400" "6103010000bb80" "746f757400" "4e" "4c00000000"
+        sink = ("4c00000000" "746f757400" "746f757400" "6103010000bb80" "6d0100" "4cffffffff" "760100010000" "30" "4cffffffff" "4e"
+                "550000000000000000" "7470756c73655f727700" "4c00000060" "504e" "550000000000000000")
+        later, ports = "5600010000" "4c00000000" "4c00010001" "4cffffffff", "4c00000000" "4e"
+        told, also = " requested-usec 0 base 65536 state 0 steps 65537 card none", " ports 0 port null"
+        for version, of_server, of_sink, ends in (
+            (13, "", "", (" server-cookie 0", " requested-usec 0")), (14, "", "", (" server-cookie 0", " requested-usec 0")),
+            (15, "6d0100", later, (" map 0", told)), (16, "6d0100", later + ports, (" map 0", told + also)),
+            (18, "6d0100", later + ports, (" map 0", told + also)), (35, "6d0100", later + ports, (" map 0", told + also)),
+        ):
+            auth = f"connect 1\nauth 1 version {version}\n"
+            text = SINK + auth + "server-info 1 tag 5\nsink-info 1 tag 6 index 0\nsink-infos 1 tag 7\nclose 1\n"
+            text += "connect 1\nauth 1 version 14\nserver-info 1 tag 5\nend\n"
+            data = sent(1, "4c00000002" "4c00000005" + server + of_server) + sent(1, "4c00000002" "4c00000006" + sink + of_sink)
+            data += sent(1, "4c00000002" "4c00000007" + 2 * (sink + of_sink)) + sent(1, "4c00000002" "4c00000005" + server)
+            lines = output.show(data + b"\0", read_session(make(text)))[0].replace(" \\\n   ", "").splitlines()
+            self.assertTrue(lines[0].endswith(ends[0]))
+            self.assertTrue(lines[1].endswith(ends[1]))
+            self.assertEqual(lines[2].count(ends[1] + " / index 0") + lines[2].endswith(ends[1]), 2)
+            self.assertTrue(lines[3].endswith(" source null server-cookie 0"))
+            self.assertNotIn("hex", "".join(lines))
 
     def test_messages(self):
         stream, end = "4c00000002", "\nend\n"

@@ -142,7 +142,7 @@ class Lengths(unittest.TestCase):
         text = "sink out u8 1 8000 map 0 guard 0 depth 80\n" + AUTH + "create 1 tag 1 u8 1 8000 map 0 tlength 400 prebuf 0 minreq 2\n"
         text += "data 1 stream 0 9x80\nturn out 0 take 3\n" + 6000 * "data 1 stream 0 9x80\nturn out 80 take 1\n" + "end\n"
         numbers = "".join(f"4c{value:08x}" for value in (0, 0, 400, 4194304, 400, 0, 2))
-        data = sent(1, "4c00000002" "4c00000000" "4c0000000d")
+        data = sent(1, "4c00000002" "4c00000000" "4c00000012")
         data += sent(1, f"4c00000002 4c00000001 {numbers} 610001 00001f40 6d0100 4c00000000 746f757400 30 550000000000002710")
         svg, fault = picture.picture(data + 6000 * (b"\3\0\0\0\0\x50" + 80 * b"\x89") + b"\0", read_session(make(text)))
         self.assertIsNone(fault)
@@ -156,7 +156,7 @@ class Lengths(unittest.TestCase):
 class Accounts(unittest.TestCase):
     def test_as_the_reckoner_has_it(self):
         """After each turn sinks and streams stand where the reckoner has them, though turns leave messages waiting."""
-        for row in ("reckoned/dice_7", "reckoned/life_7", "sinks/sinks_7", "moves/moves_11", "moves/many_waiting"):
+        for row in ("reckoned/dice_7", "reckoned/life_7", "sinks/sinks_7", "moves/moves_11", "moves/many_waiting", "versions/followed"):
             session = make(text_of("conformance", *f"{row}.session".split("/")))
             _, sinks, events = read_session(session)
             server, wanted, came = RECKON["Server"](bytes(256), sinks), [], []

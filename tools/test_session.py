@@ -30,6 +30,8 @@ AUTH_FRAME = (
 )
 AUTH = bytes.fromhex("020000000100000128") + AUTH_FRAME
 AUTH_TEXT = SINK + "connect 1\nauth 1 tag 0 version 35 shm memfd\n"
+FRONT = SINK + "connect 1\nauth 1 tag 0 version 13\n"  # the fields of 13 follow
+FRONT_18 = SINK + "connect 1\nauth 1 tag 0 version 18\n"
 CREATE_TEXT = "create 1 tag 1 s16le 1 48000 map 0 tlength 400 prebuf 0 minreq 2\n"
 CREATE = bytes.fromhex(
     "4c00000003" "4c00000001" "61030100" "00bb80" "6d0100" "4cffffffff" "4e" "4cffffffff" "30" "4c00000190"
@@ -47,7 +49,7 @@ def events(text):
     return make(text + "end\n")[len(HEADER) : -1]
 
 
-def frame_of(line, front=AUTH_TEXT):
+def frame_of(line, front=FRONT):
     """The frame of the last line of a text."""
     return read_session(make(front + line + "\nend\n"))[2][-2][2]
 
@@ -119,8 +121,44 @@ class Bytes(unittest.TestCase):
     def test_create(self):
         self.assertEqual(frame_of(CREATE_TEXT), b"\0\0\0\x45" + b"\xff" * 4 + bytes(12) + CREATE)
 
+    def test_later_fields(self):
+        """The fields of each version stand at the end, in the words and by default."""
+        for version, bools in ((13, 0), (14, 2), (15, 5), (16, 5), (17, 6), (18, 7), (35, 7), (0xC0000010, 5)):
+            front = SINK + f"connect 1\nauth 1 tag 0 version {version:#x}\n"
+            self.assertEqual(frame_of(CREATE_TEXT, front)[20:], CREATE + b"0" * bools)
+            asked = frame_of("attributes 1 tag 2 stream 0", front)[20:]
+            self.assertEqual(asked.hex(), "4c00000048" "4c00000002" "4c00000000" + 4 * "4cffffffff" + "30" * (1 + (bools > 0)))
+        for words, flags in (
+            ("", "0000000"), ("volume 7", "1000000"), ("volume 7 volume_set off", "0000000"), ("volume_set on", "1000000"),
+            ("early_requests", "0100000"), ("muted", "0010000"), ("muted muted_set off", "0000000"), ("muted_set on", "0010000"),
+            ("dont_inhibit_auto_suspend", "0001000"), ("fail_on_suspend", "0000100"), ("relative_volume", "0000010"),
+            ("passthrough", "0000001"),
+        ):
+            line = CREATE_TEXT.strip() + f" {words}"
+            self.assertEqual(frame_of(line, FRONT_18)[-7:], flags.encode())
+            text = FRONT_18 + line.rstrip() + "\nend\n"
+            self.assertEqual(show(make(text)).replace(" \\\n   ", ""), text)
+        self.assertEqual(frame_of("attributes 1 stream 0 early_requests", FRONT_18)[-2:], b"01")
+
+    def test_another_version_for_a_packet(self):
+        """A packet that isn't one at its connection's version is told at the first version that has it."""
+        for version, said in ((13, "at 13 "), (14, "at 14 "), (15, "at 15 "), (16, "at 15 "), (17, "at 17 "), (18, "")):
+            session = make(FRONT_18 + CREATE_TEXT.replace("tag 1", f"at {version} tag 1") + "end\n")
+            self.assertIn(f"create 1 tag 1 {said}s16le", show(session))
+            self.assertEqual(make(show(session)), session)
+        session = make(FRONT + "create 1 at 18 s16le 1 48000 map 0 passthrough\nend\n")
+        self.assertIn("create 1 tag 1 at 18 s16le 1 48000 map 0 passthrough\n", show(session))
+
+    def test_the_version_is_of_an_auth_that_is_taken(self):
+        for lines, bools in (
+            ("auth 1 version 12", 0), ("auth 1 version 18 cookie 01x256", 0), ("auth 1 version 12\nauth 1 version 16", 5),
+            ("auth 1 version 14\nauth 1 version 18", 2), ("auth 1 version 18\nclose 1\nconnect 1", 0),
+            ("auth 1 version 18\nconnect 2\nauth 2 version 13", 7), ("", 0),
+        ):
+            self.assertEqual(frame_of(CREATE_TEXT, SINK + f"connect 1\n{lines}\n")[20:], CREATE + b"0" * bools)
+
     def test_data(self):
-        front = AUTH_TEXT + CREATE_TEXT
+        front = FRONT + CREATE_TEXT
         self.assertEqual(
             frame_of("data 1 stream 0 1000x2 -1", front).hex(), "00000006" + "00" * 16 + "e803e803ffff"
         )
@@ -139,12 +177,12 @@ class Bytes(unittest.TestCase):
                          "4c00000007" "7800000007" + b"paplay".hex() + "00" "4e")
 
     def test_tags_are_counted(self):
-        said = make(AUTH_TEXT + "name 1\nflush 1 stream 0\nflush 1 tag 9 stream 0\nflush 1 stream 0\nend\n")
-        tags = [packets.read_packet(event[2][20:])[1] for event in read_session(said)[2] if event[0] == 2]
+        said = make(FRONT + "name 1\nflush 1 stream 0\nflush 1 tag 9 stream 0\nflush 1 stream 0\nend\n")
+        tags = [packets.read_packet(event[2][20:], 13)[1] for event in read_session(said)[2] if event[0] == 2]
         self.assertEqual(tags, [0, 1, 2, 9, 10])
 
     def test_tones_go_on(self):
-        front = AUTH_TEXT + CREATE_TEXT
+        front = FRONT + CREATE_TEXT
         whole = frame_of("data 1 stream 0 tone 440 amplitude 8000 frames 300", front)
         parts = make(front + "data 1 stream 0 tone 440 amplitude 8000 frames 100\n"
                      "data 1 stream 0 tone 440 amplitude 8000 frames 50 tone 440 amplitude 8000 frames 150\nend\n")
@@ -174,7 +212,10 @@ class Shown(unittest.TestCase):
         self.assertEqual(show(make(text)), text)
 
     def test_examples(self):
-        for name in ("auth", "late_data", "two_clients"):
+        """Those made by hand and those recorded from clients, at 13 and at 18."""
+        names = sorted(name[: -len(".txt")] for name in os.listdir(os.path.join(TOP, "examples")) if name.endswith(".txt"))
+        self.assertEqual(len(names), 10)
+        for name in names:
             session = contents("examples", name + ".prs")
             self.assertEqual(make(contents("examples", name + ".txt").decode()), session)
             self.assertLess(len(session), 300_000)
@@ -201,7 +242,7 @@ class Shown(unittest.TestCase):
             "bytes 1 hex 0102", "bytes 1 hex 030405",
         ]
         self.assertEqual({line.split()[0] for line in lines} - {"packet", "bytes"} | {"auth"}, set(packets.COMMANDS))
-        text = AUTH_TEXT + "\n".join(lines) + "\nend\n"
+        text = FRONT + "\n".join(lines) + "\nend\n"
         self.assertEqual(show(make(text)).replace(" \\\n   ", ""), text)
         self.again(make(text))
 
@@ -211,14 +252,14 @@ class Shown(unittest.TestCase):
             for channels in (1, 2, 3):
                 size = wire.SIZES[code] * channels
                 front = f"create 1 tag 1 {word} {channels} 48000 map {','.join('0' * channels)}\n"
-                session = make(AUTH_TEXT + front + "end\n")[:-1]
+                session = make(FRONT + front + "end\n")[:-1]
                 for data in (rng.randbytes(size * 5), bytes(size * 9) + b"\1" * size, rng.randbytes(size * 5 + 1)):
                     session += spelled_bytes(1, wire.frame_of(0, 0, 0, data))
                 self.again(session + b"\0")
 
     def test_fixed_format(self):
         for flags, frame in (("", "8181"), ("fix_format", "01000100"), ("fix_channels", "81"), ("fix_rate", "8181")):
-            front = AUTH_TEXT + f"create 1 tag 1 u8 2 44100 map 1,2 {flags}\n"
+            front = FRONT + f"create 1 tag 1 u8 2 44100 map 1,2 {flags}\n"
             self.assertEqual(frame_of("data 1 stream 0 1", front)[20:].hex(), frame)
 
     def test_every_cutting(self):
@@ -264,7 +305,7 @@ class Shown(unittest.TestCase):
             return spelled_turn(rng.randint(0, 255), rng.choice((None, 7)), rng.randint(0, 9))
         if kind == 4:
             return spelled_bytes(conn, rng.randbytes(rng.randint(0, 40)))
-        lines = CREATE_TEXT, "auth 1 version 13", "name 1 a=b", "data 1 stream 0 hex 0102x9", "flush 1 stream 2"
+        lines = CREATE_TEXT, "create 1 at 17 s16le 1 48000 map 0 muted", "auth 1 version 13", "auth 1 version 18", "name 1 a=b", "data 1 stream 0 hex 0102x9", "flush 1 stream 2"
         frame = frame_of(rng.choice(lines))
         if kind == 5:
             at = rng.randrange(20, len(frame))
@@ -306,6 +347,11 @@ class Refused(unittest.TestCase):
             (SINK + "delete 1 stream 0 loudly", "2: loudly is no field of this command"),
             (SINK + "create 1 map 0", "2: the format is missing"),
             (SINK + "auth 1", "2: version is missing"),
+            (FRONT + "attributes 1 stream 0 early_requests", "4: early_requests is no field of this command at version 13"),
+            (FRONT + "create 1 at 17 s16le 1 1 map 0 passthrough", "4: passthrough is no field of this command at version 17"),
+            (FRONT_18 + "create 1 s16le 1 1 map 0 volume_set yes", "4: on or off should stand where yes does"),
+            (FRONT + "server-info 1 at 12", "4: a packet's version is from 13 to 18, and 12 isn't"),
+            (FRONT + "server-info 1 at 13 at 14", "4: at is said twice"),
             (SINK + "mute 1 input 0", "2: on or off is missing"),
             (SINK + "cork 1 stream 0 maybe", "2: maybe is no field of this command"),
             (SINK + "data 1 stream 0 5", "2: connection 1 has made no stream 0: say its format"),

@@ -154,7 +154,7 @@ class Unread(Exception):
 
 
 class Items:
-    """The items of a packet, read one behind the other."""
+    """The items of a packet, read one after the other."""
 
     def __init__(self, packet):
         self.packet = packet
@@ -226,6 +226,11 @@ class Items:
     def volume(self):
         self.tag(b"v")
         return [self.whole(4) for _ in range(self.whole(1))]
+
+    def base(self):
+        """One volume."""
+        self.tag(b"V")
+        return self.whole(4)
 
     def texts(self):
         found = []

@@ -23,7 +23,7 @@ pub fn session(alloc: Global) -> Mem<Vec<u8>> {
 
 // The record of the one reply, and the end byte.
 const OUTPUT: &[u8; 45] =
-    b"\x01\0\0\0\x01\0\0\0\x23\0\0\0\x0f\xff\xff\xff\xff\0\0\0\0\0\0\0\0\0\0\0\0L\0\0\0\x02L\0\0\0\0L\0\0\0\x0d\0";
+    b"\x01\0\0\0\x01\0\0\0\x23\0\0\0\x0f\xff\xff\xff\xff\0\0\0\0\0\0\0\0\0\0\0\0L\0\0\0\x02L\0\0\0\0L\0\0\0\x12\0";
 
 // The status of a replay of these ends.
 fn ended<R: Machine, S: Source, K: Sink, L: Sink>(

@@ -19,7 +19,7 @@ impl<R: AllocGlobal + Threads + Wait + Clock + Copy + Drop + Send + Sync + 'stat
 
 /// What a client that sends AUTH is sent: the reply, in its frame.
 pub const REPLY: &[u8; 35] =
-    b"\0\0\0\x0f\xff\xff\xff\xff\0\0\0\0\0\0\0\0\0\0\0\0L\0\0\0\x02L\0\0\0\0L\0\0\0\x0d";
+    b"\0\0\0\x0f\xff\xff\xff\xff\0\0\0\0\0\0\0\0\0\0\0\0L\0\0\0\x02L\0\0\0\0L\0\0\0\x12";
 
 /// A header of one sink `out`, in S16LE, mono, of guard 10 and depth 100, with a cookie of zeros: 280 bytes.
 pub fn header(alloc: Global) -> Mem<Text> {
