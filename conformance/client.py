@@ -16,6 +16,13 @@ def packet(command, tag, *fields):
     return wire.packet_frame(b"".join((wire.number(command), wire.number(tag), *fields)))
 
 
+def is_listened_at(path):
+    """Whether somebody listens at a socket. A connection that asked would count as a client."""
+    with open("/proc/net/unix", encoding="utf-8") as file:
+        fields = [line.split() for line in file]
+    return any(it[7:] == [path] and int(it[3], 16) & 0x10000 for it in fields[1:])
+
+
 class Client:
     """A connection to the server at a socket. A call that waits longer than `patience` seconds raises TimeoutError."""
 

@@ -27,7 +27,7 @@ HERE = os.path.dirname(os.path.realpath(__file__))
 TOP = os.path.dirname(HERE)
 sys.path[:0] = [HERE, os.path.join(TOP, "conformance")]
 
-from client import Client
+from client import Client, is_listened_at
 from maker import make
 
 ROWS = ("auth/current_client", "streams/whole", "moves/there")
@@ -124,7 +124,7 @@ def serve(room, program, number):
         subprocess.run([sys.executable, "-B", os.path.join(HERE, "header.py"), "--cookie", os.path.join(room, "cookie"), "out"], stdout=file, check=True)
     words = ["serve", "--header", header, "--socket", path, "--out", room, "--accept", "1"]
     server = subprocess.Popen([program, *words], stdout=subprocess.DEVNULL, stderr=subprocess.PIPE, env=refusing(room, number))
-    while not os.path.exists(path) and server.poll() is None:
+    while not is_listened_at(path) and server.poll() is None:
         pass
     heard = server.poll() is None and plays(path, cookie)
     try:
