@@ -19,7 +19,7 @@ use Rattle.px_state.specs.Effect.{reason_code, IsSendable}
 use Rattle.px_world.specs.World.{World}
 use Rattle.px_world.specs.Event.{effects_after, frames_played}
 use Rattle.px_world.specs.Output.{effect_record, turn_record, records_of}
-use Rattle.px_app.specs.Step.{turn_sink, played_part}
+use Rattle.px_app.specs.Records.{turn_sink, played_part}
 
 pub sent_is : (conn : ConnId) (packet : List ℕ) (bytes : Bor (List ℕ)) → bytes.now ≡ packet → record_of (written.Sent conn bytes) ≡ effect_record (effect.Sent conn packet)
 sent_is conn packet bytes same = rw same refl

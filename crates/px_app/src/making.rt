@@ -2,7 +2,7 @@
 
 ghost use Rattle.std.specs.Prelude.{◌≡◌, ℕ, List, Option};
 ghost use Rattle.px_app.specs.Ends.{ends_of, log_end};
-ghost use Rattle.px_app.specs.Words.{Made, made_by};
+ghost use Rattle.px_app.specs.Making.{Generates, made_by};
 
 use crate::ending::Ending;
 use crate::log::report;
@@ -30,7 +30,7 @@ pub(crate) fn make<K: Sink, L: Sink>(
     output: &mut K,
     log: &mut L,
 ) -> Status
-    ensures { (left : Option (List ℕ)) (read : ℕ) → Made number count result
+    ensures { (left : Option (List ℕ)) (read : ℕ) → Generates number count result
         (ends_of left read (K.held output.old) (K.faults output.old)) (ends_of left read (K.held output.new) (K.faults output.new))
         (log_end (L.held log.old) (L.faults log.old)) (log_end (L.held log.new) (L.faults log.new)) }
 {
