@@ -71,8 +71,8 @@ pub(crate) fn unread(e: ReadError) -> Ending
 
 /// Reads the header of a session with a reader of its own.
 pub(crate) fn open<S: Source>(alloc: Global, input: &mut S) -> Result<(Reader, Header), Ending>
-    ensures opened { (held : Option (List ℕ)) (written : ℕ) → Opened result
-        (ends_of (S.left input.old) (S.faults input.old) held written) (ends_of (S.left input.new) (S.faults input.new) held written) }
+    ensures opened { (held : Option (List ℕ)) (written now : ℕ) → Opened result
+        (ends_of (S.left input.old) (S.faults input.old) held written) (ends_of (S.left input.new) (S.faults input.new) held now) }
     ensures begun { IfOk result (λ opened. opened.0.begun ≡ true) }
     ensures lawful { IfOk result (λ opened. IsHeader opened.1) }
     ensures fits { IfOk result (λ opened. FitsHeader opened.1) }
