@@ -1,6 +1,6 @@
 -- What the definitions compute to for the session worked by hand.
 use Rattle.std.proofs.Common.{◌≡◌, refl, arith}
-use Rattle.px_tag.specs.Item.{number, text, spec, channel_map, channel_volumes, flag, usec, proplist}
+use Rattle.px_tag.specs.Item.{number, text, spec, channel_map, channel_volumes, volume, flag, usec, proplist}
 use Rattle.px_frame.specs.Descriptor.{descriptor_in}
 use Rattle.px_frame.specs.Meaning.{meaning_of}
 use Rattle.px_state.specs.Events.{step_events}
@@ -15,7 +15,7 @@ unfolding meaning_of descriptor_in
 small-admitted = (refl, (refl, (refl, (refl, (refl, (refl, (refl, tt)))))))
 
 pub small-given : output_of small_header small_events ≡ small_output
-unfolding meaning_of descriptor_in sent_record closed_record played_record step_events number text spec channel_map channel_volumes flag usec proplist
+unfolding meaning_of descriptor_in sent_record closed_record played_record step_events number text spec channel_map channel_volumes volume flag usec proplist
 small-given = refl
 
 pub small-can : CanAllBeDone small_world small_doings
