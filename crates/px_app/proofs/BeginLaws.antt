@@ -14,11 +14,9 @@ use Rattle.px_session.specs.SessionLaw.{Lead}
 use Rattle.px_session.proofs.Steady.{more, IsSteady}
 use Rattle.px_session.proofs.SteadySession.{header_steady, event_steady}
 use Rattle.px_session.proofs.SessionLaws.{lead_stand}
-use Rattle.px_world.specs.World.{new_world}
-use Rattle.px_world.specs.Admission.{refusal_of}
-use Rattle.px_world.specs.Output.{world_by}
-use Rattle.px_world.proofs.Runs.{admitted-push}
+use Rattle.px_app.specs.Mode.{Course, state_after}
 use Rattle.px_app.specs.Session.{IsPlayed, Begins}
+use Rattle.px_app.proofs.ModeLaws.{admitted-push}
 
 -- ---- more bytes behind
 
@@ -32,35 +30,34 @@ lead_more : (events : List Event) (start here : Place) (behind : List ℕ) → L
 lead_more [] start here behind lead = ap (λ (z : Place). more z behind) lead
 lead_more (e ∷ events) start here behind lead = (more lead.0 behind, event_more start e lead.0 behind lead.1, lead_more events lead.0 here behind lead.2)
 
-pub begins_more : (bytes : List ℕ) (header : Header) (events : List Event) (here : Place) (behind : List ℕ) → Begins bytes header events here → Begins (bytes ++ behind) header events (more here behind)
-begins_more bytes header events here behind b = record {
-  start = more b.start behind;
-  head = header_more (start_of bytes) header b.start behind b.head;
-  lead = lead_more events b.start here behind b.lead;
-  admitted = b.admitted;
-}
-
--- ---- one more event
-
 lead_next : (events : List Event) (e : Event) (start here after : Place) → Lead events start here → event_at here ≡ Ok (step.Event e, after) → Lead (events ++ e ∷ []) start after
 lead_next [] e start here after lead read = (after, subst (λ (z : Place). event_at z ≡ Ok (step.Event e, after)) lead read, refl)
 lead_next (d ∷ events) e start here after lead read = (lead.0, lead.1, lead_next events e lead.0 here after lead.2 read)
 
-pub begins_next : (bytes : List ℕ) (header : Header) (events : List Event) (here after : Place) (e : Event) → Begins bytes header events here → event_at here ≡ Ok (step.Event e, after) → refusal_of (world_by (new_world header) events) e ≡ None → Begins bytes header (events ++ e ∷ []) after
-begins_next bytes header events here after e b read admits = record {
-  start = b.start;
-  head = b.head;
-  lead = lead_next events e b.start here after b.lead read;
-  admitted = admitted-push (new_world header) events e b.admitted admits;
-}
+module _ {W : Type 0} (course : Course W) where
+  pub begins_more : (bytes : List ℕ) (header : Header) (events : List Event) (here : Place) (behind : List ℕ) → Begins course bytes header events here → Begins course (bytes ++ behind) header events (more here behind)
+  begins_more bytes header events here behind b = record {
+    start = more b.start behind;
+    head = header_more (start_of bytes) header b.start behind b.head;
+    lead = lead_more events b.start here behind b.lead;
+    admitted = b.admitted;
+  }
 
--- ---- the end
+  -- one more event
+  pub begins_next : (bytes : List ℕ) (header : Header) (events : List Event) (here after : Place) (e : Event) → Begins course bytes header events here → event_at here ≡ Ok (step.Event e, after) → course.refuses (state_after course header events) e ≡ None → Begins course bytes header (events ++ e ∷ []) after
+  begins_next bytes header events here after e b read admits = record {
+    start = b.start;
+    head = b.head;
+    lead = lead_next events e b.start here after b.lead read;
+    admitted = admitted-push course (course.first header) events e b.admitted admits;
+  }
 
-pub ends_played : (bytes : List ℕ) (header : Header) (events : List Event) (here after : Place) → Begins bytes header events here → event_at here ≡ Ok (step.End, after) → IsPlayed bytes header events
-ends_played bytes header events here after b read = record {
-  session = (b.start, b.head, subst (λ (es : List Event). Stand es Ended b.start) (append-nil events) (lead_stand events [] Ended b.start here b.lead (after, read)));
-  admitted = b.admitted;
-}
+  -- the end
+  pub ends_played : (bytes : List ℕ) (header : Header) (events : List Event) (here after : Place) → Begins course bytes header events here → event_at here ≡ Ok (step.End, after) → IsPlayed course bytes header events
+  ends_played bytes header events here after b read = record {
+    session = (b.start, b.head, subst (λ (es : List Event). Stand es Ended b.start) (append-nil events) (lead_stand events [] Ended b.start here b.lead (after, read)));
+    admitted = b.admitted;
+  }
 
 -- ---- refusals
 

@@ -1,37 +1,25 @@
--- What an event that the world has done leaves, once its records are written.
-use Rattle.std.proofs.Common.{◌≡◌, ◌≢◌, inl, ℕ, List, Option, None, Some, refl, ap, subst, ◌∙◌}
-use Rattle.px_ends.specs.Visible.{after_adding}
-use Rattle.px_ends.specs.Whole.{AddsFront}
+-- How an event that a stage didn't do ends a run.
+use Rattle.std.proofs.Common.{◌≡◌, ℕ, List, Option, Err, ap}
 use Rattle.px_session.specs.declared.event.Event.{Event}
 use Rattle.px_world.specs.declared.fault.WorldFault.{WorldFault}
 use Rattle.px_world.specs.declared.fault.WorldFault.TheVariants.{Live, NotLive, NoSink, Worn, TooMany, NoMemory}
-use Rattle.px_world.specs.World.{World}
-use Rattle.px_world.specs.Running.{Running, StandsFor}
-use Rattle.px_world.specs.Admission.{refusal_of}
-use Rattle.px_world.specs.Event.{world_after}
 use Rattle.px_app.specs.declared.refusal.Refusal.{Refusal}
 use Rattle.px_app.specs.declared.refusal.Why.TheVariants as why
 use Rattle.px_app.specs.Refusal.{number_of}
-use Rattle.px_app.specs.declared.view.Lens.{Lens}
-use Rattle.px_app.specs.View.{part_of}
-use Rattle.px_app.specs.Step.{barred, EventDone, EventCut, EventEnds}
+use Rattle.px_app.specs.Mode.{Mode}
+use Rattle.px_app.specs.Stage.{EventPlayed}
+use Rattle.px_app.specs.Step.{barred, EventEnds}
 
 abbrev barred_so : ℕ → WorldFault → ℕ → Refusal
 barred_so at fault number = record { at = at; why = why.World fault number }
 
--- what is shown of it was added
-pub event_done : (l : Lens) (w : World) (e : Event) (world : Running) (bytes : List ℕ) (before now : Option (List ℕ)) → bytes ≡ part_of l w e → refusal_of w e ≡ None → StandsFor world (world_after w e) → now ≡ after_adding before bytes → EventDone l w e world before now
-event_done l w e world bytes before now same admitted stands gained = record { admitted = admitted; stands = stands; gained = gained ∙ ap (after_adding before) same }
-
--- or a front of it
-pub event_cut : (l : Lens) (w : World) (e : Event) (bytes : List ℕ) (before now : Option (List ℕ)) → bytes ≡ part_of l w e → refusal_of w e ≡ None → AddsFront bytes before now → EventCut l w e before now
-event_cut l w e bytes before now same admitted cut = record { admitted = admitted; gained = subst (λ (b : List ℕ). AddsFront b before now) same cut }
-
--- a fault of the world, unless it is want of memory, is why the event isn't admitted
-pub event_barred : (fault : WorldFault) (at number : ℕ) (l : Lens) (w : World) (e : Event) (held : Option (List ℕ)) → number ≡ number_of e → (fault ≢ NoMemory → refusal_of w e ≡ Some fault) → EventEnds (barred at number fault) at l w e held held
-event_barred NoMemory at number l w e held same refused = inl refl
-event_barred Live at number l w e held same refused = (Live, refused (λ (f : Live ≡ NoMemory). cc), ap (λ (n : ℕ). barred_so at Live n) same, refl)
-event_barred NotLive at number l w e held same refused = (NotLive, refused (λ (f : NotLive ≡ NoMemory). cc), ap (λ (n : ℕ). barred_so at NotLive n) same, refl)
-event_barred NoSink at number l w e held same refused = (NoSink, refused (λ (f : NoSink ≡ NoMemory). cc), ap (λ (n : ℕ). barred_so at NoSink n) same, refl)
-event_barred Worn at number l w e held same refused = (Worn, refused (λ (f : Worn ≡ NoMemory). cc), ap (λ (n : ℕ). barred_so at Worn n) same, refl)
-event_barred (TooMany asked there) at number l w e held same refused = (TooMany asked there, refused (λ (f : TooMany asked there ≡ NoMemory). cc), ap (λ (n : ℕ). barred_so at (TooMany asked there) n) same, refl)
+module _ {W A L : Type 0} (mode : Mode W A L) where
+  -- a fault, unless it is want of memory, is why the event is refused
+  pub event_barred : (B : Type 0) (fault : WorldFault) (at number : ℕ) (look : L) (w : W) (e : Event) (before now : Option (List ℕ)) → number ≡ number_of e → EventPlayed mode {B = B} (Err fault) look w e before now
+      → EventEnds mode (barred at number fault) at look w e before now
+  event_barred B NoMemory at number look w e before now same played = played
+  event_barred B Live at number look w e before now same played = (Live, played.0, ap (barred_so at Live) same, played.1)
+  event_barred B NotLive at number look w e before now same played = (NotLive, played.0, ap (barred_so at NotLive) same, played.1)
+  event_barred B NoSink at number look w e before now same played = (NoSink, played.0, ap (barred_so at NoSink) same, played.1)
+  event_barred B Worn at number look w e before now same played = (Worn, played.0, ap (barred_so at Worn) same, played.1)
+  event_barred B (TooMany asked there) at number look w e before now same played = (TooMany asked there, played.0, ap (barred_so at (TooMany asked there)) same, played.1)

@@ -2,6 +2,7 @@ pub mod WordLaws
 pub mod LineLaws
 pub mod SummaryLaws
 pub mod FrontLaws
+pub mod ModeLaws
 pub mod ReadLaws
 pub mod BeginLaws
 pub mod RefuseLaws
@@ -12,8 +13,8 @@ pub mod PlayLaws
 pub mod FlushLaws
 pub mod ReportLaws
 pub mod CompleteLaws
+pub mod PlayedLaws
 pub mod ReplayLaws
-pub mod UsageLaws
 pub mod RunLaws
 pub mod EitherLaws
 pub mod FinalLaws

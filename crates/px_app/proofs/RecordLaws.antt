@@ -1,5 +1,5 @@
 -- The records that are written are those of the effects and of a turn's frames.
-use Rattle.std.proofs.Common.{◌≡◌, ◌<◌, ◌+◌, ◌^◌, ℕ, List, ◌++◌, length, length-append, Bor, Some, refl, sym, ap, ◌∙◌, arith, eqb, false}
+use Rattle.std.proofs.Common.{◌≡◌, ◌<◌, ◌^◌, ℕ, List, ◌++◌, length, length-append, Bor, Some, refl, sym, ap, ◌∙◌, arith, eqb, false}
 use Rattle.std.proofs.lemmas.Bool.{ne_eqb}
 use Rattle.std.specs.List.{concat, flat_map}
 use Rattle.px_types.specs.declared.ids.ConnId.{ConnId}
@@ -19,7 +19,7 @@ use Rattle.px_state.specs.Effect.{reason_code, IsSendable}
 use Rattle.px_world.specs.World.{World}
 use Rattle.px_world.specs.Event.{effects_after, frames_played}
 use Rattle.px_world.specs.Output.{effect_record, turn_record, records_of}
-use Rattle.px_app.specs.Step.{turn_sink, played_part}
+use Rattle.px_app.specs.Records.{turn_sink, played_part}
 
 pub sent_is : (conn : ConnId) (packet : List ℕ) (bytes : Bor (List ℕ)) → bytes.now ≡ packet → record_of (written.Sent conn bytes) ≡ effect_record (effect.Sent conn packet)
 sent_is conn packet bytes same = rw same refl

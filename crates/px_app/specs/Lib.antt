@@ -1,13 +1,19 @@
 pub mod Ends
 pub mod Refusal
+pub mod Mode
 pub mod Session
 pub mod Summary
 pub mod View
+pub mod Played
+pub mod Plays
 pub mod Replay
 pub mod Ending
 pub mod Report
+pub mod Stage
 pub mod Step
+pub mod Records
 pub mod Words
+pub mod Making
 pub mod Serving
 pub mod HeaderFile
 pub mod Back
@@ -16,3 +22,4 @@ pub mod Serves
 pub mod ServeCommand
 pub mod ServePlain
 pub mod Fine
+pub mod Run

@@ -1,5 +1,5 @@
 -- What the words of `serve` do, and what the log gains of it.
-use Rattle.std.specs.Prelude.{◌≡◌, ◌⊎◌, ℕ, Bool, false, bytes_eq, List, [], ◌∷◌, Option, codes}
+use Rattle.std.specs.Prelude.{◌≡◌, ◌⊎◌, ℕ, List, [], Option, codes}
 use Rattle.px_types.specs.declared.status.Status.{Status}
 use Rattle.px_types.specs.declared.status.Status.TheVariants as status
 use Rattle.px_types.specs.Faults.{Rose}
@@ -17,11 +17,6 @@ use Rattle.px_app.specs.declared.ending.Ending.TheVariants as ending
 use Rattle.px_app.specs.declared.refusal.Why.TheVariants as why
 use Rattle.px_app.specs.Ends.{Log}
 use Rattle.px_app.specs.Report.{Reported}
-
--- words that begin with `serve`
-abbrev pub is_serve : List (List ℕ) → Bool
-is_serve [] = false
-is_serve (word ∷ words) = bytes_eq word (codes "serve")
 
 -- the line of a server's status: nothing where all went well
 abbrev pub line_of_status : Status → List ℕ

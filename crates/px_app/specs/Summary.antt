@@ -1,5 +1,5 @@
 -- The summary of a session: the number of its events, of frames sent and connections closed, and the frame counts of each sink.
-use Rattle.std.specs.Prelude.{ℕ, suc, ◌+◌, Bool, true, false, List, [], ◌∷◌, ◌++◌, length, codes, decimal, Option, None, Some}
+use Rattle.std.specs.Prelude.{ℕ, suc, ◌+◌, ◌*◌, ◌^◌, ◌≤◌, Bool, true, false, List, [], ◌∷◌, ◌++◌, length, codes, decimal, Option, None, Some}
 use Rattle.std.specs.List.{slice_get, count_by}
 use Rattle.px_header.specs.declared.header.SinkSpec.{SinkSpec}
 use Rattle.px_session.specs.declared.event.Event.{Event}
@@ -37,6 +37,12 @@ tally_by w events = record { events = length events; sent = sent_in (effects_by_
 -- the counts after one more event, which has these effects
 abbrev pub tallied : Tally → List Effect → Tally
 tallied t effects = record { events = t.events + 1; sent = t.sent + sent_in effects; closed = t.closed + closed_in effects }
+
+-- The counts are bounded by the bytes read: at most one event a byte, and 2^64 frames and connections an event.
+pub record AreFew (t : Tally) (at : ℕ) : Type 0 where
+  pub events : t.events ≤ at
+  pub sent : t.sent ≤ t.events * 2 ^ 64
+  pub closed : t.closed ≤ t.events * 2 ^ 64
 
 -- ---- lines
 

@@ -6,6 +6,8 @@ use Rattle.px_header.specs.declared.header.Header.{Header}
 use Rattle.px_session.specs.declared.event.Event.{Event}
 use Rattle.px_session.specs.Spelling.{end_byte}
 use Rattle.px_world.specs.World.{World, Mixer, new_world}
+use Rattle.px_world.specs.Admission.{refusal_of}
+use Rattle.px_world.specs.Event.{world_after}
 use Rattle.px_world.specs.Output.{world_by, records_of, records_by}
 use Rattle.px_world.specs.History.{played_on, played_by_run}
 use Rattle.px_app.specs.declared.view.View.{View}
@@ -13,6 +15,7 @@ use Rattle.px_app.specs.declared.view.View.TheVariants as view
 use Rattle.px_app.specs.declared.view.Lens.{Lens}
 use Rattle.px_app.specs.declared.view.Lens.TheVariants as lens
 use Rattle.px_app.specs.declared.tally.Tally.{Tally}
+use Rattle.px_app.specs.Mode.{Course, Mode}
 use Rattle.px_app.specs.Summary.{tally_by, tally_lines, sink_lines}
 
 -- what is asked for, with a sink by its name
@@ -38,12 +41,6 @@ part_of lens.Records w e = records_of w e
 part_of (lens.Raw k) w e = concat (played_on w e k)
 part_of lens.Summary w e = []
 
--- and of the events of a run: the records, or all frames that the sink plays
-abbrev pub parts_by : Lens → World → List Event → List ℕ
-parts_by lens.Records w events = records_by w events
-parts_by (lens.Raw k) w events = concat (played_by_run w events k)
-parts_by lens.Summary w events = []
-
 -- what is shown after the last event: the end byte of records, or the summary
 abbrev pub ending_of : Lens → Tally → List SinkSpec → List Mixer → List ℕ
 ending_of lens.Records tally sinks mixers = end_byte ∷ []
@@ -53,6 +50,18 @@ ending_of lens.Summary tally sinks mixers = tally_lines tally ++ sink_lines 0 si
 abbrev pub last_part : Lens → Header → List Event → List ℕ
 last_part l header events = ending_of l (tally_by (new_world header) events) header.sinks (world_by (new_world header) events).mixers
 
--- all that is shown of a session that is played
-abbrev pub output_by : Lens → Header → List Event → List ℕ
-output_by l header events = parts_by l (new_world header) events ++ last_part l header events
+-- ---- a replay
+
+-- the events are done by the world, which may not admit one
+abbrev pub world_course : Course World
+world_course = record { first = new_world; refuses = refusal_of; after = world_after }
+
+-- a replay shows the session through the lens of what is asked for
+abbrev pub replay_mode : Mode World Shown Lens
+replay_mode = record { course = world_course; looks = λ shown header. lens_of shown header.sinks; opens = λ l header. []; shows = part_of; closes = last_part }
+
+-- what is shown of the events of a run of the world: the records, or all frames that the sink plays
+abbrev pub shown_of_run : Lens → World → List Event → List ℕ
+shown_of_run lens.Records w events = records_by w events
+shown_of_run (lens.Raw k) w events = concat (played_by_run w events k)
+shown_of_run lens.Summary w events = []

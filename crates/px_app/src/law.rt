@@ -1,28 +1,44 @@
-//! That each input is played or refused, and refused in one way.
+//! That each input is played or refused, and refused in one way, and that a replay is a run of the world.
 
-ghost use Rattle.std.specs.Prelude.{◌≡◌, ◌≢◌, ◌⊎◌, ◌++◌, ℕ, List};
+ghost use Rattle.std.specs.Prelude.{◌≡◌, ◌≢◌, ◌⊎◌, ◌↔◌, ◌++◌, ℕ, List};
 ghost use Rattle.px_header.specs.declared.header.Header.{Header};
 ghost use Rattle.px_session.specs.declared.event.Event.{Event};
 ghost use Rattle.px_session.specs.declared.fault.Cause.TheVariants.{Truncated};
+ghost use Rattle.px_world.specs.World.{World};
+ghost use Rattle.px_world.specs.Output.{world_by, output_of, AreAdmitted as IsRun};
 ghost use Rattle.px_app.specs.declared.refusal.Refusal.{Refusal};
 ghost use Rattle.px_app.specs.declared.refusal.Why.TheVariants as why;
+ghost use Rattle.px_app.specs.declared.view.Lens.{Lens};
+ghost use Rattle.px_app.specs.declared.view.Lens.TheVariants as lens;
+ghost use Rattle.px_app.specs.Mode.{state_by, AreAdmitted, shown_by, output_by};
 ghost use Rattle.px_app.specs.Session.{IsPlayed, Before, IsRefused};
+ghost use Rattle.px_app.specs.View.{world_course, replay_mode, shown_of_run};
 
 /// Each list of bytes is a session that is played, in one way, or is refused, and not both. It does nothing: its contract is the law.
 pub fn inputs_are_played_or_refused()
-    ensures either { (bytes : List ℕ) → ((header : Header) × (events : List Event) × IsPlayed bytes header events)
-        ⊎ ((refusal : Refusal) × (before : Before) × IsRefused bytes refusal before) }
+    ensures either { (bytes : List ℕ) → ((header : Header) × (events : List Event) × IsPlayed world_course bytes header events)
+        ⊎ ((refusal : Refusal) × (before : Before) × IsRefused world_course bytes refusal before) }
     ensures never_both { (bytes : List ℕ) (header : Header) (events : List Event) (refusal : Refusal) (before : Before)
-        → IsPlayed bytes header events → IsRefused bytes refusal before → ⊥ }
+        → IsPlayed world_course bytes header events → IsRefused world_course bytes refusal before → ⊥ }
     ensures one_way { (bytes : List ℕ) (header other : Header) (events others : List Event)
-        → IsPlayed bytes header events → IsPlayed bytes other others → (header ≡ other) × (events ≡ others) }
+        → IsPlayed world_course bytes header events → IsPlayed world_course bytes other others → (header ≡ other) × (events ≡ others) }
 {}
 
 /// A refusal's offset, cause and preceding events are unique, and unless its cause is an early end they stay the same whatever bytes follow. It does
 /// nothing: its contract is the law.
 pub fn refusals_are_final()
-    ensures one { (bytes : List ℕ) (refusal other : Refusal) (before others : Before) → IsRefused bytes refusal before
-        → IsRefused bytes other others → (refusal ≡ other) × (before ≡ others) }
-    ensures stays { (bytes behind : List ℕ) (refusal : Refusal) (before : Before) → IsRefused bytes refusal before
-        → refusal.why ≢ why.Session Truncated → IsRefused (bytes ++ behind) refusal before }
+    ensures one { (bytes : List ℕ) (refusal other : Refusal) (before others : Before) → IsRefused world_course bytes refusal before
+        → IsRefused world_course bytes other others → (refusal ≡ other) × (before ≡ others) }
+    ensures stays { (bytes behind : List ℕ) (refusal : Refusal) (before : Before) → IsRefused world_course bytes refusal before
+        → refusal.why ≢ why.Session Truncated → IsRefused world_course (bytes ++ behind) refusal before }
+{}
+
+/// A replay admits the events that are a run of the world, ends in the world after them, and shows the records of that run, or the frames that a sink
+/// plays in it. It does nothing: its contract is the law.
+pub fn replays_are_runs_of_the_world()
+    ensures admitted { (w : World) (events : List Event) → AreAdmitted world_course w events ↔ IsRun w events }
+    ensures states { (w : World) (events : List Event) → state_by world_course w events ≡ world_by w events }
+    ensures shown { (l : Lens) (w : World) (events : List Event) → shown_by replay_mode l w events ≡ shown_of_run l w events }
+    // The records of a whole session are the world's output.
+    ensures output { (header : Header) (events : List Event) → output_by replay_mode lens.Records header events ≡ output_of header events }
 {}

@@ -1,52 +1,34 @@
-//! A replay under way: the reader of the session, and the world that its events are played in.
+//! Playing an input by a mode: the reader of the session, and the mode's stage.
 
-ghost use Rattle.std.specs.Prelude.{◌≡◌, ◌<◌, ◌≤◌, ◌^◌, ℕ, List, [], Option, true, ◌+◌, ◌-◌, IfOk, OnOk, IfErr};
+ghost use Rattle.std.specs.Prelude.{◌≡◌, ◌<◌, ◌≤◌, ◌^◌, ◌+◌, ◌-◌, ℕ, List, [], ◌∷◌, ◌++◌, Option, Some, true, OnOk, IfErr};
 ghost use Rattle.px_ends.specs.Visible.{after_adding};
-ghost use Rattle.px_world.specs.World.{World as SpecWorld};
-ghost use Rattle.px_world.specs.Running.{StandsFor};
-ghost use Rattle.px_world.specs.Event.{effects_after};
+ghost use Rattle.px_header.specs.declared.header.Header.{Header as Head};
+ghost use Rattle.px_session.specs.declared.event.Event.{Event as Happening};
+ghost use Rattle.px_session.specs.Writing.{FitsEvent};
 ghost use Rattle.px_app.specs.Ends.{Ends, ends_of, Grew};
-ghost use Rattle.px_app.specs.Summary.{tallied};
-ghost use Rattle.px_app.specs.View.{Shown, shown_of, ending_of};
-ghost use Rattle.px_app.specs.Replay.{InputPlayed, InputCounted};
-ghost use Rattle.px_app.specs.Step.{turn_sink, barred, Closes, EventPlayed, EndReads, StepReads, IsEventEnd, ending_with, AreFew, Reached, Begun, Stepped};
+ghost use Rattle.px_app.specs.Mode.{state_after};
+ghost use Rattle.px_app.specs.Played.{InputPlayed, InputCounted};
+ghost use Rattle.px_app.specs.Step.{barred, Closes, IsClosing, EndReads, StepReads, EventStepped, IsEventEnd, ending_with, IsOpened, Reached, Stepped};
 
 use crate::ending::Ending;
-use crate::reading::{next_event, next_header, unread};
-use crate::records::write_outcome;
+use crate::reading::{next_event, unread};
 use crate::refusal::{Refusal, Why, number_of};
-use crate::summary::summary;
-use crate::tally::Tally;
-use crate::view::{Lens, View, lens_of};
-use px_ends::{Pieces, Sink, Source, write_all};
-use px_header::Header;
-use px_session::{Event, Reader, write_end};
-use px_world::{World, WorldFault};
+use crate::stage::Stage;
+use px_ends::{Pieces, Sink, Source};
+use px_session::{Event, Reader};
+use px_world::WorldFault;
 use std::alloc::Global;
 
-/// The state of a replay.
+/// The state of playing an input.
 #[derive(Drop)]
-pub(crate) struct Playing {
+pub(crate) struct Playing<T> {
     reader: Reader,
-    header: Header,
-    lens: Lens,
-    world: World,
-    tally: Tally,
+    stage: T,
     // Output that isn't written yet.
     pieces: Pieces,
 }
 
-// The sink of a turn.
-fn turn_sink(e: &Event) -> Option<u8>
-    ensures { result ≡ turn_sink e.now }
-{
-    match e {
-        Event::Turn { sink, .. } => Some(*sink),
-        _ => None,
-    }
-}
-
-// How a fault of the world at an event ends the run: its kind byte is at offset `at`, and `number` is that of its connection or sink.
+// How a fault at an event ends the run: its kind byte is at offset `at`, and `number` is that of its connection or sink.
 fn barred(at: u64, number: u32, fault: WorldFault) -> Ending
     ensures { result ≡ barred at number fault }
 {
@@ -59,33 +41,7 @@ fn barred(at: u64, number: u32, fault: WorldFault) -> Ending
     }
 }
 
-// Writes what is shown of a session after its last event.
-fn close<K: Sink>(
-    alloc: Global,
-    lens: Lens,
-    tally: Tally,
-    header: &Header,
-    world: &World,
-    output: &mut K,
-) -> Ending
-    ensures { Closes result (ending_of lens tally header.now.sinks world.now.mixers) (K.held output.old) (K.held output.new) }
-{
-    let written = match lens {
-        Lens::Records => write_end(output).is_ok(),
-        Lens::Raw(_) => true,
-        Lens::Summary => match summary(alloc, tally, header.sinks.as_slice(), world) {
-            Ok(text) => write_all(output, text.as_slice()).is_ok(),
-            Err(_) => false,
-        },
-    };
-    if written {
-        Ending::Done
-    } else {
-        Ending::Memory
-    }
-}
-
-// How a replay ends once its last piece was written, or wasn't. The first cause that was met decides.
+// How a run ends once its last piece was written, or wasn't. The first cause that was met decides.
 fn ending_with(ended: Ending, is_written: bool) -> Ending
     ensures { result ≡ ending_with ended is_written }
 {
@@ -96,106 +52,69 @@ fn ending_with(ended: Ending, is_written: bool) -> Ending
     }
 }
 
-impl Playing {
-    // Reads the header, and makes its world.
-    fn new<S: Source>(alloc: Global, view: View<'_>, input: &mut S) -> Result<Playing, Ending>
-        ensures begun { (held : Option (List ℕ)) (written : ℕ) → Begun (shown_of view.entry) result
-            (ends_of (S.left input.old) (S.faults input.old) held written) (ends_of (S.left input.new) (S.faults input.new) held written) }
-        ensures ready { IfOk result (λ playing. playing.reader.begun ≡ true) }
-        ensures few { IfOk result (λ playing. AreFew playing.tally playing.reader.at) }
-        ensures empty { IfOk result (λ playing. playing.pieces.bytes ≡ []) }
-        ensures counts { StepReads result (S.faults input.old) (S.faults input.new) }
-    {
-        let Ok(mut reader) = Reader::new(alloc) else {
-            return Err(Ending::Memory);
-        };
-        let header = match next_header(&mut reader, input) {
-            Ok(header) => header,
-            Err(e) => return Err(unread(e)),
-        };
-        let Some(lens) = lens_of(view, header.sinks.as_slice()) else {
-            return Err(Ending::NoSuchSink);
-        };
-        let Ok(world) = World::new(alloc, &header) else {
-            return Err(Ending::Memory);
-        };
-        Ok(Playing {
-            reader,
-            header,
-            lens,
-            world,
-            tally: Tally::new(),
-            pieces: Pieces::new(alloc),
-        })
-    }
-
-    // Plays an event whose kind byte is at offset `at`, and gathers what is shown of it.
+impl<T: Stage> Playing<T> {
+    // Plays an event whose kind byte is at offset `at`, gathers what is shown of it, and gives its text back to the reader.
     fn play_event(&mut self, alloc: Global, at: u64, e: Event) -> Result<(), Ending>
-        requires { AreFew self.old.tally (2 ^ 40 - 1) }
-        ensures played { (w : SpecWorld) → StandsFor self.old.world w → (held : Option (List ℕ))
-            → EventPlayed result at self.old.lens w e self.new.world (after_adding held self.old.pieces.bytes) (after_adding held self.new.pieces.bytes) }
-        ensures tally { (w : SpecWorld) → StandsFor self.old.world w → OnOk result (self.new.tally ≡ tallied self.old.tally (effects_after w e)) }
-        ensures few { OnOk result (AreFew self.new.tally (self.old.tally.events + 1)) }
+        requires fits { FitsEvent e }
+        requires counts { T.counts self.old.stage (2 ^ 40 - 1) }
+        ensures played { (look : T.Look) (header : Head) (events : List Happening) (held : Option (List ℕ)) → T.stands self.old.stage look header events
+            → EventStepped T.mode result at look (state_after T.mode.course header events) e
+            (after_adding held self.old.pieces.bytes) (after_adding held self.new.pieces.bytes) }
+        ensures stands { (look : T.Look) (header : Head) (events : List Happening) → T.stands self.old.stage look header events
+            → OnOk result (T.stands self.new.stage look header (events ++ e ∷ [])) }
+        ensures counts { (n : ℕ) → T.counts self.old.stage n → OnOk result (T.counts self.new.stage (n + 1)) }
         ensures reader { self.new.reader ≡ self.old.reader }
-        ensures header { self.new.header ≡ self.old.header }
-        ensures lens { self.new.lens ≡ self.old.lens }
         ensures ends { IfErr result IsEventEnd }
     {
         let number = number_of(&e);
-        let sink = turn_sink(&e);
-        let outcome = match self.world.event(alloc, e) {
-            Ok(outcome) => outcome,
-            Err(fault) => return Err(barred(at, number, fault)),
-        };
-        self.tally.add(outcome.effects.as_slice());
-        match write_outcome(&mut self.pieces, self.lens, sink, &outcome) {
-            Ok(()) => Ok(()),
-            Err(_) => Err(Ending::Memory),
+        match self.stage.event(alloc, e, &mut self.pieces) {
+            Ok(None) => Ok(()),
+            Ok(Some(text)) => {
+                self.reader.reuse(text);
+                Ok(())
+            }
+            Err(fault) => Err(barred(at, number, fault)),
+        }
+    }
+
+    // Gathers what is shown after the last event.
+    fn close(&mut self, alloc: Global) -> Ending
+        ensures closes { (look : T.Look) (header : Head) (events : List Happening) (held : Option (List ℕ)) → T.stands self.old.stage look header events
+            → Closes result (T.mode.closes look header events) (after_adding held self.old.pieces.bytes) (after_adding held self.new.pieces.bytes) }
+        ensures ends { IsClosing result }
+    {
+        match self.stage.close(alloc, &mut self.pieces) {
+            Ok(()) => Ending::Done,
+            Err(_) => Ending::Memory,
         }
     }
 
     // Reads and plays the next event, or ends after the last one.
     fn step<S: Source>(&mut self, alloc: Global, input: &mut S) -> Result<(), Ending>
         requires begun { self.old.reader.begun ≡ true }
-        requires few { AreFew self.old.tally self.old.reader.at }
-        ensures stepped { (shown : Shown) (first : Ends) (held : Option (List ℕ)) (written : ℕ)
-            → Reached shown self.old first (ends_of (S.left input.old) (S.faults input.old) (after_adding held self.old.pieces.bytes) written)
-            → Stepped shown result self.new first (ends_of (S.left input.new) (S.faults input.new) (after_adding held self.new.pieces.bytes) written) }
+        requires counts { T.counts self.old.stage self.old.reader.at }
+        ensures stepped { (asked : T.Asked) (first : Ends) (held : Option (List ℕ)) (written : ℕ)
+            → Reached T.mode T.stands asked self.old first (ends_of (S.left input.old) (S.faults input.old) (after_adding held self.old.pieces.bytes) written)
+            → Stepped T.mode T.stands asked result self.new first (ends_of (S.left input.new) (S.faults input.new) (after_adding held self.new.pieces.bytes) written) }
         ensures forward { OnOk result ((self.old.reader.at < self.new.reader.at) × (self.new.reader.at ≤ 2 ^ 40)) }
         ensures begun { OnOk result (self.new.reader.begun ≡ true) }
-        ensures few { OnOk result (AreFew self.new.tally self.new.reader.at) }
-        ensures counts { StepReads result (S.faults input.old) (S.faults input.new) }
+        ensures counts { OnOk result (T.counts self.new.stage self.new.reader.at) }
+        ensures reads { StepReads result (S.faults input.old) (S.faults input.new) }
     {
         let at = self.reader.at();
         match next_event(&mut self.reader, input) {
             Ok(Some(e)) => self.play_event(alloc, at, e),
-            Ok(None) => Err(close(
-                alloc,
-                self.lens,
-                self.tally,
-                &self.header,
-                &self.world,
-                &mut self.pieces,
-            )),
+            Ok(None) => Err(self.close(alloc)),
             Err(e) => Err(unread(e)),
         }
     }
 
-    // Gives an event's text back to the reader once the world is done with its bytes.
-    fn hand_back(&mut self)
-        ensures { self.new ≡ self.old }
-    {
-        if let Some(text) = self.world.used_text() {
-            self.reader.reuse(text);
-        }
-    }
-
-    // Writes the output that waits, and returns how the replay ends.
+    // Writes the output that waits, and returns how the run ends.
     fn finish<K: Sink>(&mut self, ended: Ending, output: &mut K) -> Ending
-        ensures played { (shown : Shown) (first : Ends) (left : Option (List ℕ)) (read written : ℕ)
-            → InputPlayed shown ended first (ends_of left read (after_adding (K.held output.old) self.old.pieces.bytes) written)
+        ensures played { (asked : T.Asked) (first : Ends) (left : Option (List ℕ)) (read written : ℕ)
+            → InputPlayed T.mode asked ended first (ends_of left read (after_adding (K.held output.old) self.old.pieces.bytes) written)
             → Grew first.held (K.held output.old)
-            → InputPlayed shown result first (ends_of left read (K.held output.new) written) }
+            → InputPlayed T.mode asked result first (ends_of left read (K.held output.new) written) }
         ensures counted { (left now_left : Option (List ℕ)) (read now_read : ℕ) → EndReads ended read now_read
             → InputCounted result (ends_of left read (K.held output.old) (K.faults output.old)) (ends_of now_left now_read (K.held output.new) (K.faults output.new)) }
     {
@@ -206,11 +125,11 @@ impl Playing {
     // Reads and plays to the end, and writes what is shown in pieces.
     fn run<S: Source, K: Sink>(&mut self, alloc: Global, input: &mut S, output: &mut K) -> Ending
         requires begun { self.old.reader.begun ≡ true }
-        requires few { AreFew self.old.tally self.old.reader.at }
-        ensures played { (shown : Shown) (first : Ends) (written : ℕ)
-            → Reached shown self.old first (ends_of (S.left input.old) (S.faults input.old) (after_adding (K.held output.old) self.old.pieces.bytes) written)
+        requires counts { T.counts self.old.stage self.old.reader.at }
+        ensures played { (asked : T.Asked) (first : Ends) (written : ℕ)
+            → Reached T.mode T.stands asked self.old first (ends_of (S.left input.old) (S.faults input.old) (after_adding (K.held output.old) self.old.pieces.bytes) written)
             → Grew first.held (K.held output.old)
-            → InputPlayed shown result first (ends_of (S.left input.new) (S.faults input.new) (K.held output.new) written) }
+            → InputPlayed T.mode asked result first (ends_of (S.left input.new) (S.faults input.new) (K.held output.new) written) }
         ensures counted { InputCounted result
             (ends_of (S.left input.old) (S.faults input.old) (K.held output.old) (K.faults output.old))
             (ends_of (S.left input.new) (S.faults input.new) (K.held output.new) (K.faults output.new)) }
@@ -219,35 +138,57 @@ impl Playing {
             if let Err(ended) = self.step(alloc, input) {
                 return self.finish(ended, output);
             }
-            self.hand_back();
             if self.pieces.is_piece() && self.pieces.flush(output).is_err() {
                 return Ending::WriteFault;
             }
         }
     }
+
+    // Gathers what is shown of the header, and plays the rest.
+    fn begin<S: Source, K: Sink>(&mut self, alloc: Global, input: &mut S, output: &mut K) -> Ending
+        requires begun { self.old.reader.begun ≡ true }
+        requires counts { T.counts self.old.stage self.old.reader.at }
+        requires empty { self.old.pieces.bytes ≡ [] }
+        ensures played { (asked : T.Asked) (look : T.Look) (header : Head) (first : Ends) (written : ℕ)
+            → IsOpened self.old.reader header first (ends_of (S.left input.old) (S.faults input.old) (K.held output.old) written)
+            → T.mode.looks asked header ≡ Some look → T.stands self.old.stage look header []
+            → InputPlayed T.mode asked result first (ends_of (S.left input.new) (S.faults input.new) (K.held output.new) written) }
+        ensures counted { InputCounted result
+            (ends_of (S.left input.old) (S.faults input.old) (K.held output.old) (K.faults output.old))
+            (ends_of (S.left input.new) (S.faults input.new) (K.held output.new) (K.faults output.new)) }
+    {
+        match self.stage.open(&mut self.pieces) {
+            Ok(()) => self.run(alloc, input, output),
+            Err(_) => self.finish(Ending::Memory, output),
+        }
+    }
 }
 
-/// Plays an input: reads its session, and writes what is shown of its events and after them.
-pub(crate) fn play<S: Source, K: Sink>(
+/// Plays an input whose header was read, on the stage that was made for it.
+pub(crate) fn play<T: Stage + Drop, S: Source, K: Sink>(
     alloc: Global,
-    view: View<'_>,
+    reader: Reader,
+    stage: T,
     input: &mut S,
     output: &mut K,
 ) -> Ending
-    ensures played { InputPlayed (shown_of view.entry) result
-        (ends_of (S.left input.old) (S.faults input.old) (K.held output.old) (K.faults output.old))
-        (ends_of (S.left input.new) (S.faults input.new) (K.held output.new) (K.faults output.new)) }
+    requires begun { reader.begun ≡ true }
+    requires counts { T.counts stage reader.at }
+    ensures played { (asked : T.Asked) (look : T.Look) (header : Head) (first : Ends) (written : ℕ)
+        → IsOpened reader header first (ends_of (S.left input.old) (S.faults input.old) (K.held output.old) written)
+        → T.mode.looks asked header ≡ Some look → T.stands stage look header []
+        → InputPlayed T.mode asked result first (ends_of (S.left input.new) (S.faults input.new) (K.held output.new) written) }
     ensures counted { InputCounted result
         (ends_of (S.left input.old) (S.faults input.old) (K.held output.old) (K.faults output.old))
         (ends_of (S.left input.new) (S.faults input.new) (K.held output.new) (K.faults output.new)) }
 {
-    match Playing::new(alloc, view, input) {
-        Ok(mut playing) => {
-            let ended = playing.run(alloc, input, output);
-            // Passed to a function, so that its fields are dropped by functions of their own.
-            drop(playing);
-            ended
-        }
-        Err(ended) => ended,
-    }
+    let mut playing = Playing {
+        reader,
+        stage,
+        pieces: Pieces::new(alloc),
+    };
+    let ended = playing.begin(alloc, input, output);
+    // Passed to a function, so that its fields are dropped by functions of their own.
+    drop(playing);
+    ended
 }

@@ -1,26 +1,27 @@
-//! Reads the next item of a session: its header, and then its events.
+//! Reads a session: its header, and then its events.
 
-ghost use Rattle.std.specs.Prelude.{◌≡◌, ◌<◌, ◌≤◌, ◌^◌, true, false, IfOk, OnOk, IfSome};
+ghost use Rattle.std.specs.Prelude.{◌≡◌, ◌<◌, ◌≤◌, ◌^◌, ℕ, List, Option, true, false, IfOk, OnOk, IfSome};
 ghost use Rattle.px_session.specs.Reader.{Takes};
 ghost use Rattle.px_header.specs.HeaderRules.{IsHeader};
 ghost use Rattle.px_session.specs.EventRules.{IsEvent};
 ghost use Rattle.px_session.specs.Held.{ReadCounts};
-ghost use Rattle.px_app.specs.Step.{header_step, event_step, unread};
+ghost use Rattle.px_session.specs.Writing.{FitsHeader, FitsEvent};
+ghost use Rattle.px_app.specs.Ends.{ends_of};
+ghost use Rattle.px_app.specs.Step.{header_step, event_step, unread, StepReads, Opened};
 
 use crate::ending::Ending;
 use crate::refusal::{Refusal, Why};
 use px_ends::Source;
 use px_header::Header;
 use px_session::{Event, ReadError, Reader, Step};
+use std::alloc::Global;
 
-/// Reads the header.
-pub(crate) fn next_header<S: Source>(
-    reader: &mut Reader,
-    input: &mut S,
-) -> Result<Header, ReadError>
+// Reads the header.
+fn next_header<S: Source>(reader: &mut Reader, input: &mut S) -> Result<Header, ReadError>
     requires { reader.old.begun ≡ false }
     ensures takes { Takes (header_step result) reader.old reader.new (S.left input.old) (S.left input.new) }
     ensures lawful { IfOk result IsHeader }
+    ensures fits { IfOk result FitsHeader }
     ensures counts { ReadCounts result (S.faults input.old) (S.faults input.new) }
 {
     match reader.next(input) {
@@ -39,6 +40,7 @@ pub(crate) fn next_event<S: Source>(
     requires { reader.old.begun ≡ true }
     ensures takes { Takes (event_step result) reader.old reader.new (S.left input.old) (S.left input.new) }
     ensures lawful { IfOk result (λ found. IfSome found IsEvent) }
+    ensures fits { IfOk result (λ found. IfSome found FitsEvent) }
     ensures forward { OnOk result ((reader.old.at < reader.new.at) × (reader.new.at ≤ 2 ^ 40)) }
     ensures counts { ReadCounts result (S.faults input.old) (S.faults input.new) }
 {
@@ -61,5 +63,23 @@ pub(crate) fn unread(e: ReadError) -> Ending
         }),
         ReadError::Failed => Ending::ReadFault,
         ReadError::NoMemory => Ending::Memory,
+    }
+}
+
+/// Reads the header of a session with a reader of its own.
+pub(crate) fn open<S: Source>(alloc: Global, input: &mut S) -> Result<(Reader, Header), Ending>
+    ensures opened { (held : Option (List ℕ)) (written now : ℕ) → Opened result
+        (ends_of (S.left input.old) (S.faults input.old) held written) (ends_of (S.left input.new) (S.faults input.new) held now) }
+    ensures begun { IfOk result (λ opened. opened.0.begun ≡ true) }
+    ensures lawful { IfOk result (λ opened. IsHeader opened.1) }
+    ensures fits { IfOk result (λ opened. FitsHeader opened.1) }
+    ensures reads { StepReads result (S.faults input.old) (S.faults input.new) }
+{
+    let Ok(mut reader) = Reader::new(alloc) else {
+        return Err(Ending::Memory);
+    };
+    match next_header(&mut reader, input) {
+        Ok(header) => Ok((reader, header)),
+        Err(e) => Err(unread(e)),
     }
 }

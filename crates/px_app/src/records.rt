@@ -6,13 +6,23 @@ ghost use Rattle.px_ends.specs.Visible.{after_adding};
 ghost use Rattle.px_ends.specs.Whole.{AddsFront};
 ghost use Rattle.px_state.specs.Effect.{IsSendable, AreSendable};
 ghost use Rattle.px_world.specs.Output.{effect_record};
-ghost use Rattle.px_app.specs.Step.{played_part, raw_part, shown_part};
+ghost use Rattle.px_app.specs.Records.{turn_sink, played_part, raw_part, shown_part};
 
 use crate::view::Lens;
 use px_core::Effect;
 use px_ends::{Sink, write_all};
-use px_session::{OutRecord, WriteError, write_effect};
+use px_session::{Event, OutRecord, WriteError, write_effect};
 use px_world::Outcome;
+
+/// The sink of a turn.
+pub(crate) fn turn_sink(e: &Event) -> Option<u8>
+    ensures { result ≡ turn_sink e.now }
+{
+    match e {
+        Event::Turn { sink, .. } => Some(*sink),
+        _ => None,
+    }
+}
 
 // Writes the record of an effect. A frame that a client was sent is short enough for its record.
 fn write_effect_record<K: Sink>(output: &mut K, effect: &Effect) -> Result<(), WriteError>

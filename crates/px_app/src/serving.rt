@@ -3,7 +3,8 @@
 ghost use Rattle.std.specs.Prelude.{◌≡◌, map, string_bytes};
 ghost use Rattle.px_app.specs.Ends.{log_end};
 ghost use Rattle.px_app.specs.Tape.{out_end};
-ghost use Rattle.px_app.specs.Serving.{is_serve, line_of_status, StatusReported, Served};
+ghost use Rattle.px_app.specs.Serving.{line_of_status, StatusReported, Served};
+ghost use Rattle.px_app.specs.Words.{is_serve};
 
 use crate::ending::Ending;
 use crate::log::report;

@@ -1,8 +1,7 @@
 //! The counts of a run.
 
 ghost use Rattle.std.specs.Prelude.{◌≡◌, ◌+◌, ◌-◌, ◌^◌};
-ghost use Rattle.px_app.specs.Step.{AreFew};
-ghost use Rattle.px_app.specs.Summary.{is_sent, is_closed, sent_in, closed_in, tallied};
+ghost use Rattle.px_app.specs.Summary.{AreFew, is_sent, is_closed, sent_in, closed_in, tallied};
 
 use px_core::Effect;
 

@@ -5,7 +5,7 @@ use Rattle.px_state.specs.declared.effect.Effect.{Effect}
 use Rattle.px_ends.specs.Visible.{after_adding}
 use Rattle.px_ends.specs.Whole.{AddsFront}
 use Rattle.px_world.specs.Output.{effect_record}
-use Rattle.px_app.specs.Step.{played_part}
+use Rattle.px_app.specs.Records.{played_part}
 use Rattle.px_app.proofs.FrontLaws.{first_cut, second_cut}
 use Rattle.px_app.proofs.records.write_records.Goals as goal
 

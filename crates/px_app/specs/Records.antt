@@ -1,0 +1,31 @@
+-- What a replay shows of an event, from what the world answered.
+use Rattle.std.specs.Prelude.{ℕ, cond, nat_eq, List, [], ◌++◌, Option, None, Some}
+use Rattle.std.specs.List.{flat_map}
+use Rattle.px_session.specs.declared.event.Event.{Event}
+use Rattle.px_session.specs.declared.event.Event.TheVariants.{Turn}
+use Rattle.px_session.specs.Output.{played_record}
+use Rattle.px_state.specs.declared.effect.Effect.{Effect}
+use Rattle.px_world.specs.Output.{effect_record}
+use Rattle.px_app.specs.declared.view.Lens.{Lens}
+use Rattle.px_app.specs.declared.view.Lens.TheVariants as lens
+
+-- the sink of a turn
+abbrev pub turn_sink : Event → Option ℕ
+turn_sink (Turn sink frames messages) = Some sink
+turn_sink other = None
+
+-- the record of the `frames` frames that a turn consumed, if there are any
+abbrev pub played_part : Option ℕ → ℕ → List ℕ → List ℕ
+played_part None frames bytes = []
+played_part (Some sink) frames bytes = cond (nat_eq frames 0) [] (played_record sink frames bytes)
+
+-- the bytes that a turn of sink `k` consumed
+abbrev pub raw_part : Option ℕ → ℕ → List ℕ → List ℕ
+raw_part None k bytes = []
+raw_part (Some sink) k bytes = cond (nat_eq sink k) bytes []
+
+-- what is shown of an event with these effects and this sound
+abbrev pub shown_part : Lens → Option ℕ → List Effect → ℕ → List ℕ → List ℕ
+shown_part lens.Records sink effects frames played = flat_map effect_record effects ++ played_part sink frames played
+shown_part (lens.Raw k) sink effects frames played = raw_part sink k played
+shown_part lens.Summary sink effects frames played = []
