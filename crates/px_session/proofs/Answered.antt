@@ -72,7 +72,7 @@ sinks_fit : (earlier sinks : List SinkSpec) → AreSinks earlier sinks → AllBy
 sinks_fit earlier [] lawful = tt
 sinks_fit earlier (s ∷ sinks) lawful = (omega (arith, lawful.0.name_size.1), sinks_fit (earlier ++ s ∷ []) sinks lawful.1)
 
-event_fits : (form : Form) (e : Event) → IsEvent form e → FitsEvent form e
+pub event_fits : (form : Form) (e : Event) → IsEvent form e → FitsEvent form e
 event_fits form (event.Connect conn) h = tt
 event_fits form (event.Bytes conn bytes) h = h.1
 event_fits form (event.Close conn) h = tt
