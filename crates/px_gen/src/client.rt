@@ -6,7 +6,7 @@ ghost use Rattle.px_gen.specs.Client.{shape, buffering, nine_flags, sink_of, map
 use px_cmd::number;
 use px_frame::{write_data, write_packet};
 use px_tag::{Mem, Packet, PropList, RawMap, RawSpec, RawVolume, TagWriter};
-use px_types::limits::{PROTOCOL_VERSION, UNSET};
+use px_types::limits::{LEAST_PROTOCOL_VERSION, UNSET};
 use px_types::{NoMemory, Text};
 use std::alloc::Global;
 
@@ -36,7 +36,7 @@ fn auth_packet(alloc: Global) -> Mem<Packet>
     let mut writer = TagWriter::new(alloc);
     writer.number(number::AUTH)?;
     writer.number(0)?;
-    writer.number(u32::from(PROTOCOL_VERSION))?;
+    writer.number(u32::from(LEAST_PROTOCOL_VERSION))?;
     writer.arbitrary(&COOKIE)?;
     Ok(writer.finish())
 }
