@@ -29,7 +29,8 @@ use Rattle.px_session.proofs.Steady.{more, answer, behind_end}
 use Rattle.px_session.proofs.SteadySession.{Closed, event_steady, step_steady}
 use Rattle.px_session.proofs.SessionLaws.{event_shorter}
 use Rattle.px_session.specs.Spelling.{header}
-use Rattle.px_session.proofs.LastByte.{event_no_header, first_read, later_read}
+use Rattle.px_session.proofs.LastByte.{event_no_header}
+use Rattle.px_session.proofs.StepLaws.{first_read, later_read}
 use Rattle.px_session.proofs.SinkLaws.{header_law}
 use Rattle.px_session.proofs.EventLaws.{event_found}
 

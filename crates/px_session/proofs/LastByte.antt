@@ -13,14 +13,14 @@ use Rattle.px_session.specs.declared.fault.ReadError.TheVariants as error
 use Rattle.px_session.specs.declared.found.Found.{Found}
 use Rattle.px_session.specs.declared.form.Form.{Form}
 use Rattle.px_session.specs.Form.{has_stop}
-use Rattle.px_session.specs.Place.{Place, Reading, Refusal, limit, done, and_then}
+use Rattle.px_session.specs.Place.{Place, Reading, limit, done, and_then}
 use Rattle.px_session.specs.Field.{byte_at}
-use Rattle.px_session.specs.HeaderReading.{header_at}
 use Rattle.px_session.specs.EventReading.{ended_by, end_at, conn_at, data_at, turn_at, collect_at, stop_at, no_event_at, fields_at, event_at}
-use Rattle.px_session.specs.Session.{first_at, later_at, step_at}
+use Rattle.px_session.specs.Session.{step_at}
 use Rattle.px_session.specs.Found.{place_at, Finds, IsOpen}
-use Rattle.px_session.proofs.Steps.{go_on_ok, then_ok, as_refused}
-use Rattle.px_session.proofs.Steady.{end_of, behind_end, answer, ok_is}
+use Rattle.px_session.proofs.Steps.{go_on_ok, then_ok}
+use Rattle.px_session.proofs.StepLaws.{first_read, later_read}
+use Rattle.px_session.proofs.Steady.{end_of, behind_end, ok_is}
 use Rattle.px_session.proofs.SteadySession.{step_steady}
 
 -- the end is read only where nothing is left behind it
@@ -163,37 +163,6 @@ unfolding event_at
 event_no_header form place x h e is =
     let s = go_on_ok (byte_at place) (fields_at form place.at) x e in
     fields_header form place.at s.0.0 s.0.1 x h s.2 is
-
--- ---- the header, and what comes after it
-
-abbrev headed : (Form × Header) × Place → Result ((Form × Header) × Place) Refusal
-headed x = Ok x
-
--- what is read first is a header, and its form
-pub first_read : (place : Place) (x : (Form × Step) × Place) → first_at place ≡ Ok x → (h : Header) × (header_at place ≡ Ok ((x.0.0, h), x.1)) × (x.0.1 ≡ step.Header h)
-unfolding first_at
-first_read place x e =
-    let s = then_ok header_at (λ first. done (first.0, step.Header first.1)) place x e in
-    let same = ok_is ((s.0.0.0, step.Header s.0.0.1), s.0.1) x s.2 in
-    let form : s.0.0.0 ≡ x.0.0 = ap (λ (z : (Form × Step) × Place). z.0.0) same in
-    let after : s.0.1 ≡ x.1 = ap (λ (z : (Form × Step) × Place). z.1) same in
-    (s.0.0.1, s.1 ∙ ap (λ (f : Form). headed ((f, s.0.0.1), s.0.1)) form ∙ ap (λ (p : Place). headed ((x.0.0, s.0.0.1), p)) after, sym (ap (λ (z : (Form × Step) × Place). z.0.1) same))
-
-pub first_refused : (place : Place) (f : Refusal) → first_at place ≡ Err f → header_at place ≡ Err f
-unfolding first_at
-first_refused place f e = as_refused header_at (λ first. (first.0, step.Header first.1)) place f e
-
--- what is read next is an event, or the end, and the form stays
-pub later_read : (form : Form) (place : Place) (x : (Form × Step) × Place) → later_at form place ≡ Ok x → (event_at form place ≡ Ok (x.0.1, x.1)) × (x.0.0 ≡ form)
-unfolding later_at
-later_read form place x e =
-    let s = then_ok (event_at form) (λ step. done (form, step)) place x e in
-    let same = ok_is ((form, s.0.0), s.0.1) x s.2 in
-    (s.1 ∙ ap (λ (z : (Form × Step) × Place). answer (z.0.1, z.1)) same, sym (ap (λ (z : (Form × Step) × Place). z.0.0) same))
-
-pub later_refused : (form : Form) (place : Place) (f : Refusal) → later_at form place ≡ Err f → event_at form place ≡ Err f
-unfolding later_at
-later_refused form place f e = as_refused (event_at form) (λ step. (form, step)) place f e
 
 -- ---- what more bytes may change
 
