@@ -1,8 +1,6 @@
 -- What a reader's answer over the bytes that it took says of all bytes that were ahead of it.
 use Rattle.std.proofs.Common.{◌≡◌, ◌<◌, ◌≤◌, ℕ, length, List, [], ◌∷◌, ◌++◌, arith, Option, None, Some, Result, Ok, Err, refl, sym, ap, subst, ◌∙◌, append_assoc}
-use Rattle.std.specs.Prelude.{IfSome, IfOk}
 use Rattle.std.proofs.lemmas.List.{append-nil}
-use Rattle.std.proofs.lemmas.Result.{IfOk-weaker}
 use Rattle.px_header.specs.declared.header.Header.{Header}
 use Rattle.px_session.specs.declared.event.Step.{Step}
 use Rattle.px_session.specs.declared.event.Step.TheVariants as step
@@ -19,8 +17,8 @@ use Rattle.std.specs.List.{AllByRecursion}
 use Rattle.px_session.specs.declared.event.Event.{Event}
 use Rattle.px_session.specs.declared.event.Event.TheVariants as event
 use Rattle.px_header.specs.declared.header.SinkSpec.{SinkSpec}
-use Rattle.px_session.specs.EventRules.{IsEvent, IsStep}
-use Rattle.px_session.specs.Writing.{FitsSink, FitsEvent, FitsStep}
+use Rattle.px_session.specs.EventRules.{IsEvent, IsStep, IsStepBy}
+use Rattle.px_session.specs.Writing.{FitsSink, FitsEvent, FitsStep, FitsStepBy}
 use Rattle.px_header.specs.HeaderRules.{AreSinks, IsHeader}
 use Rattle.px_session.specs.Law.{AreBytes}
 use Rattle.px_session.specs.Session.{step_at}
@@ -87,10 +85,9 @@ step_fits form (step.Header h) lawful = record { count = omega (arith, lawful.co
 step_fits form (step.Event e) lawful = event_fits form e lawful
 step_fits form step.End lawful = tt
 
--- where the form is known, what is lawful in it can be written in it
-pub writable : (begun : Option Form) (read : Result Step ReadError) → IfSome begun (λ form. IfOk read (IsStep form)) → IfSome begun (λ form. IfOk read (FitsStep form))
-writable None read lawful = tt
-writable (Some form) read lawful = IfOk-weaker read (IsStep form) (FitsStep form) (step_fits form) lawful
+pub given_fits : (begun : Option Form) (s : Step) → IsStepBy begun s → FitsStepBy begun s
+given_fits None s lawful = lawful
+given_fits (Some form) s lawful = step_fits form s lawful
 
 -- ---- the second form has every event
 

@@ -1,5 +1,5 @@
 -- Which events a session of a form can have: each number fits its field, a Bytes event is not too long, and Stop is there.
-use Rattle.std.specs.Prelude.{◌≡◌, ◌<◌, ◌≤◌, ◌^◌, true, length}
+use Rattle.std.specs.Prelude.{◌≡◌, ◌<◌, ◌≤◌, ◌^◌, true, length, Option, None, Some}
 use Rattle.px_types.specs.declared.ids.ConnId.{ConnId}
 use Rattle.px_session.specs.declared.event.Event.{Event}
 use Rattle.px_session.specs.declared.event.Event.TheVariants.{Connect, Bytes, Close, Cut, Turn, Collect, Stop}
@@ -26,3 +26,8 @@ abbrev pub IsStep : Form → Step → Type 0
 IsStep form (step.Header h) = IsHeader h
 IsStep form (step.Event e) = IsEvent form e
 IsStep form step.End = Unit {0}
+
+-- the same where this is the form, which is known once a step is given
+abbrev pub IsStepBy : Option Form → Step → Type 0
+IsStepBy None s = ⊥
+IsStepBy (Some form) s = IsStep form s

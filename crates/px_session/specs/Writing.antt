@@ -1,5 +1,5 @@
 -- The values that the writers can write in a form.
-use Rattle.std.specs.Prelude.{◌≡◌, ◌<◌, ◌≤◌, ◌^◌, true, length}
+use Rattle.std.specs.Prelude.{◌≡◌, ◌<◌, ◌≤◌, ◌^◌, true, length, Option, None, Some}
 use Rattle.std.specs.List.{AllByRecursion}
 use Rattle.px_header.specs.declared.header.SinkSpec.{SinkSpec}
 use Rattle.px_header.specs.declared.header.Header.{Header}
@@ -39,3 +39,7 @@ abbrev pub FitsStep : Form → Step → Type 0
 FitsStep form (step.Header h) = FitsHeader h
 FitsStep form (step.Event e) = FitsEvent form e
 FitsStep form step.End = Unit {0}
+
+abbrev pub FitsStepBy : Option Form → Step → Type 0
+FitsStepBy None s = ⊥
+FitsStepBy (Some form) s = FitsStep form s

@@ -1,9 +1,9 @@
 //! The reader of sessions.
 
-ghost use Rattle.std.specs.Prelude.{◌≡◌, ◌<◌, ◌≤◌, ◌^◌, [], None, IfSome, IfOk, OnOk};
+ghost use Rattle.std.specs.Prelude.{◌≡◌, ◌<◌, ◌≤◌, ◌^◌, [], None, IfOk, OnOk};
 ghost use Rattle.px_session.specs.Reader.{all_ahead, Takes, Gives};
-ghost use Rattle.px_session.specs.EventRules.{IsStep};
-ghost use Rattle.px_session.specs.Writing.{FitsStep};
+ghost use Rattle.px_session.specs.EventRules.{IsStepBy};
+ghost use Rattle.px_session.specs.Writing.{FitsStepBy};
 ghost use Rattle.px_session.specs.Held.{ReadCounts};
 
 use crate::event::Step;
@@ -77,7 +77,7 @@ impl Reader {
     // What comes next in the bytes that it took from the source.
     fn advance<S: Source>(&mut self, input: &mut S) -> Result<Step, ReadError>
         ensures takes { Takes result self.old self.new (S.left input.old) (S.left input.new) }
-        ensures lawful { IfSome self.new.begun (λ form. IfOk result (IsStep form)) }
+        ensures lawful { IfOk result (IsStepBy self.new.begun) }
         ensures forward { OnOk result ((self.old.at < self.new.at) × (self.new.at ≤ 2 ^ 40)) }
         ensures counts { ReadCounts result (S.faults input.old) (S.faults input.new) }
     {
@@ -97,9 +97,9 @@ impl Reader {
         // Visible or not, the bytes that it took from the source spell it.
         ensures takes { Takes result self.old self.new (S.left input.old) (S.left input.new) }
         // Visible or not, a header and an event follow the rules of the form.
-        ensures lawful { IfSome self.new.begun (λ form. IfOk result (IsStep form)) }
+        ensures lawful { IfOk result (IsStepBy self.new.begun) }
         // What it gives can be written in the form that it was read in.
-        ensures writable { IfSome self.new.begun (λ form. IfOk result (FitsStep form)) }
+        ensures writable { IfOk result (FitsStepBy self.new.begun) }
         // Each step has at least one byte, and a session at most 2^40.
         ensures forward { OnOk result ((self.old.at < self.new.at) × (self.new.at ≤ 2 ^ 40)) }
         // The source's count of faults rises exactly where the answer is `Failed`.
