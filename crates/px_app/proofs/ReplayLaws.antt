@@ -5,6 +5,7 @@ use Rattle.std.proofs.lemmas.List.Folds.{concat-append}
 use Rattle.px_ends.specs.Visible.{after_adding}
 use Rattle.px_ends.specs.Whole.{AddsFront}
 use Rattle.px_types.specs.declared.status.Status.{Status}
+use Rattle.px_session.specs.Reader.{Reader}
 use Rattle.px_header.specs.declared.header.Header.{Header}
 use Rattle.px_session.specs.declared.event.Event.{Event}
 use Rattle.px_world.specs.declared.fault.WorldFault.{WorldFault}
@@ -16,19 +17,23 @@ use Rattle.px_world.specs.History.{AreDecided, played_on, played_by_run}
 use Rattle.px_world.specs.Output.{world_by, records_of, output_of, AreAdmitted as IsRun}
 use Rattle.px_world.specs.Running.{StandsFor}
 use Rattle.px_world.proofs.Decided.{is-decided}
-use Rattle.px_app.specs.declared.replaying.Replaying.{Replaying}
+use Rattle.px_app.specs.declared.replay_stage.Replaying.{Replaying}
 use Rattle.px_app.specs.declared.tally.Tally.{Tally}
 use Rattle.px_app.specs.declared.view.Lens.{Lens}
 use Rattle.px_app.specs.declared.view.Lens.TheVariants as lens
+use Rattle.px_app.specs.declared.ending.Ending.{Ending}
+use Rattle.px_app.specs.declared.ending.Ending.TheVariants as ending
 use Rattle.px_app.specs.Ends.{Ends, Log}
 use Rattle.px_app.specs.Mode.{state_by, state_after, AreAdmitted, shown_by, parts_by, output_by}
-use Rattle.px_app.specs.Played.{Played}
-use Rattle.px_app.specs.Replay.{IsAfter, Replays}
+use Rattle.px_app.specs.Played.{InputPlayed, Played}
+use Rattle.px_app.specs.Replay.{IsAfter, Unmade, Replays}
 use Rattle.px_app.specs.Session.{IsPlayed}
 use Rattle.px_app.specs.Stage.{EventDone, EventCut, EventPlayed}
 use Rattle.px_app.specs.Summary.{AreFew, tallied, tally_by}
-use Rattle.px_app.specs.View.{Shown, part_of, ending_of, last_part, world_course, replay_mode, shown_of_run}
+use Rattle.px_app.specs.Step.{IsOpened}
+use Rattle.px_app.specs.View.{Shown, lens_of, part_of, ending_of, last_part, world_course, replay_mode, shown_of_run}
 use Rattle.px_app.proofs.ModeLaws.{state-push}
+use Rattle.px_app.proofs.PlayLaws.{opened_unnamed, opened_nothing}
 use Rattle.px_app.proofs.PlayedLaws.{plays}
 use Rattle.px_app.proofs.ViewLaws.{tally-push}
 
@@ -68,6 +73,16 @@ pub replays : (shown : Shown) (answered : Status) (before after : Ends) (log_bef
 replays shown answered before after log_before log_after x =
     let p = plays replay_mode shown answered before after log_before log_after x in
     record { plays = p; decided = λ is. are_decided (p.ok is).bytes (p.ok is).header (p.ok is).events (p.ok is).played }
+
+-- why there is no stage
+pub unmade_played : (shown : Shown) (ended : Ending) (reader : Reader) (header : Header) (before after : Ends) → IsOpened reader header before after → Unmade ended (lens_of shown header.sinks) → InputPlayed replay_mode shown ended before after
+unmade_played shown ending.NoSuchSink reader header before after o none = opened_unnamed replay_mode shown reader header before after o none
+unmade_played shown ending.Memory reader header before after o none = opened_nothing replay_mode shown reader header before after o
+unmade_played shown ending.Done reader header before after o none = absurd none
+unmade_played shown (ending.Refused refusal) reader header before after o none = absurd none
+unmade_played shown ending.Usage reader header before after o none = absurd none
+unmade_played shown ending.ReadFault reader header before after o none = absurd none
+unmade_played shown ending.WriteFault reader header before after o none = absurd none
 
 -- ---- an event
 

@@ -10,7 +10,7 @@ use Rattle.px_world.specs.Running.{StandsFor}
 use Rattle.px_world.specs.History.{AreDecided}
 use Rattle.px_app.specs.declared.ending.Ending.{Ending}
 use Rattle.px_app.specs.declared.ending.Ending.TheVariants as ending
-use Rattle.px_app.specs.declared.replaying.Replaying.{Replaying}
+use Rattle.px_app.specs.declared.replay_stage.Replaying.{Replaying}
 use Rattle.px_app.specs.declared.view.Lens.{Lens}
 use Rattle.px_app.specs.Ends.{Ends, Log}
 use Rattle.px_app.specs.Mode.{state_after}

@@ -8,7 +8,7 @@ ghost use Rattle.px_app.specs.Words.{alone_in, command_in};
 use crate::ending::Ending;
 use crate::log::report;
 use crate::making::make;
-use crate::replay::replay;
+use crate::replaying::replay;
 use crate::serving::{is_serve, serve_reported};
 use crate::words::{Words, meaning};
 use px_ends::{Host, Sink, Source};

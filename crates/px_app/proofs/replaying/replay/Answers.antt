@@ -1,7 +1,7 @@
 use Rattle.px_app.specs.Ends.{ends_of, log_end}
 use Rattle.px_app.specs.View.{shown_of}
 use Rattle.px_app.proofs.ReplayLaws.{replays}
-use Rattle.px_app.proofs.replay.replay.Goals as goal
+use Rattle.px_app.proofs.replaying.replay.Goals as goal
 
 pub returns : goal.returns
 returns g c =
