@@ -16,9 +16,10 @@ use Rattle.px_session.proofs.Answered.{event_in_second}
 use Rattle.px_session.proofs.SessionLaws.{session_again, session_found}
 use Rattle.px_app.specs.Convert.{convert_mode, Converts}
 use Rattle.px_app.specs.Ends.{Ends, Log}
-use Rattle.px_app.specs.Mode.{Course, shown_by, output_by}
+use Rattle.px_app.specs.Mode.{Course, Mode, output_by, shown_by}
 use Rattle.px_app.specs.Played.{Played}
 use Rattle.px_app.specs.Session.{IsPlayed}
+use Rattle.px_app.proofs.EitherLaws.{one_way}
 use Rattle.px_app.proofs.PlayedLaws.{plays}
 
 -- ---- the spelling
@@ -59,3 +60,10 @@ module _ {W : Type 0} (course : Course W) where
   pub played_again : (bytes : List ℕ) (header : Header) (events : List Event) → AreBytes bytes → IsPlayed course bytes header events → length (spelling.spelled Two header events) ≤ limit
       → IsPlayed course (spelling.spelled Two header events) header events
   played_again bytes header events are p short = record { form = Two; session = read_again bytes header events are p short; admitted = p.admitted }
+
+module _ {W A L : Type 0} (mode : Mode W A L) where
+  pub same_output : (bytes : List ℕ) (header other : Header) (events others : List Event) (l : L) → AreBytes bytes → IsPlayed mode.course bytes header events → length (spelling.spelled Two header events) ≤ limit
+      → IsPlayed mode.course (spelling.spelled Two header events) other others → output_by mode l other others ≡ output_by mode l header events
+  same_output bytes header other events others l are p short q =
+      let same = one_way mode.course (spelling.spelled Two header events) other header others events q (played_again mode.course bytes header events are p short) in
+      ap (λ (h : Header). output_by mode l h others) same.0 ∙ ap (output_by mode l header) same.1

@@ -29,7 +29,10 @@ mod words;
 pub use crate::log::report;
 pub use converting::convert;
 pub use ending::Ending;
-pub use law::{inputs_are_played_or_refused, refusals_are_final};
+pub use law::{
+    conversions_replay_the_same, inputs_are_played_or_refused, refusals_are_final,
+    replays_are_runs_of_the_world,
+};
 pub use program::run;
 pub use refusal::{Refusal, Why};
 pub use replaying::replay;
