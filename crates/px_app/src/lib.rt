@@ -30,12 +30,8 @@ pub use crate::log::report;
 pub use converting::convert;
 pub use ending::Ending;
 pub use law::{
-<<<<<<< HEAD
     conversions_replay_the_same, inputs_are_played_or_refused, refusals_are_final,
     replays_are_runs_of_the_world,
-=======
-    inputs_are_played_or_refused, refusals_are_final, replays_are_runs_of_the_world,
->>>>>>> main
 };
 pub use program::run;
 pub use refusal::{Refusal, Why};

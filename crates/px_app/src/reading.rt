@@ -73,11 +73,7 @@ pub(crate) fn unread(e: ReadError) -> Ending
 pub(crate) fn open<S: Source>(alloc: Global, input: &mut S) -> Result<(Reader, Header), Ending>
     ensures opened { (held : Option (List ℕ)) (written now : ℕ) → Opened result
         (ends_of (S.left input.old) (S.faults input.old) held written) (ends_of (S.left input.new) (S.faults input.new) held now) }
-<<<<<<< HEAD
     ensures begun { IfOk result (λ opened. IsSome opened.0.begun) }
-=======
-    ensures begun { IfOk result (λ opened. opened.0.begun ≡ true) }
->>>>>>> main
     ensures lawful { IfOk result (λ opened. IsHeader opened.1) }
     ensures fits { IfOk result (λ opened. FitsHeader opened.1) }
     ensures reads { StepReads result (S.faults input.old) (S.faults input.new) }

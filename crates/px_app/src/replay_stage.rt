@@ -95,11 +95,8 @@ impl Stage for Replaying {
 
     ghost stands = { λ stage look header events. IsAfter stage look header events };
 
-<<<<<<< HEAD
     ghost ready = { λ stage. Unit {0} };
 
-=======
->>>>>>> main
     ghost counts = { λ stage at. AreFew stage.tally at };
 
     fn open(&self, pieces: &mut Pieces) -> Mem<()> {
