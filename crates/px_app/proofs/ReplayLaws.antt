@@ -1,5 +1,5 @@
 -- A replay is a run of the world.
-use Rattle.std.proofs.Common.{◌≡◌, ◌≢◌, ◌+◌, ◌≤◌, inl, inr, ℕ, List, [], ◌∷◌, ◌++◌, Option, None, Some, Err, refl, sym, ap, subst, ◌∙◌, arith}
+use Rattle.std.proofs.Common.{◌≡◌, ◌≢◌, inl, ℕ, List, [], ◌∷◌, ◌++◌, Option, None, Some, Err, refl, sym, ap, subst, ◌∙◌}
 use Rattle.std.specs.List.{concat}
 use Rattle.std.proofs.lemmas.List.Folds.{concat-append}
 use Rattle.px_ends.specs.Visible.{after_adding}
@@ -29,7 +29,7 @@ use Rattle.px_app.specs.Played.{InputPlayed, Played}
 use Rattle.px_app.specs.Replay.{IsAfter, Unmade, Replays}
 use Rattle.px_app.specs.Session.{IsPlayed}
 use Rattle.px_app.specs.Stage.{EventDone, EventCut, EventPlayed}
-use Rattle.px_app.specs.Summary.{AreFew, tallied, tally_by}
+use Rattle.px_app.specs.Summary.{tallied, tally_by}
 use Rattle.px_app.specs.Step.{IsOpened}
 use Rattle.px_app.specs.View.{Shown, lens_of, part_of, ending_of, last_part, world_course, replay_mode, shown_of_run}
 use Rattle.px_app.proofs.ModeLaws.{state-push}
@@ -112,9 +112,6 @@ stands_on old new l header events e a same_lens same_header stands tally = recor
   stands = subst (λ (w : World). StandsFor new.world w) (sym (state-push world_course (new_world header) events e)) stands;
   counted = tally ∙ ap (λ (t : Tally). tallied t (effects_after (state_after world_course header events) e)) a.counted ∙ sym (tally-push (new_world header) events e);
 }
-
-pub few_more : (t : Tally) (at more : ℕ) → at ≤ more → AreFew t at → AreFew t more
-few_more t at more less few = record { events = omega (arith, few.events, less); sent = few.sent; closed = few.closed }
 
 -- ---- the end
 

@@ -1,16 +1,25 @@
 -- What the status of a run says, from what the words ask for and what was done.
-use Rattle.std.proofs.Common.{◌≡◌, ◌⊎◌, inl, inr, ℕ, refl, subst}
+use Rattle.std.proofs.Common.{◌≡◌, ◌⊎◌, inl, inr, ℕ, List, Bool, true, false, cond, Option, option_map, refl, sym, ap, subst}
+use Rattle.std.specs.Prelude.{unwrap_or}
 use Rattle.px_types.specs.declared.status.Status.{Status}
 use Rattle.px_types.specs.declared.status.Status.TheVariants as status
+use Rattle.px_annals.specs.declared.entry.CoreEntry.{CoreEntry}
+use Rattle.px_annals.specs.declared.entry.LaneEntry.{LaneEntry}
+use Rattle.px_ends.specs.Device.{DeviceState}
 use Rattle.px_gen.specs.Generator.{generated}
 use Rattle.px_app.specs.declared.ending.Ending.{Ending}
 use Rattle.px_app.specs.declared.ending.Ending.TheVariants as ending
+use Rattle.px_app.specs.declared.words.Words.{Words}
 use Rattle.px_app.specs.Ends.{Ends, Log}
 use Rattle.px_app.specs.Ending.{status_of}
 use Rattle.px_app.specs.Making.{MadeFront, Makes, Made, Generates}
 use Rattle.px_app.specs.Plays.{NoneRose}
 use Rattle.px_app.specs.Report.{Reported}
-use Rattle.px_app.specs.Run.{IsUsage}
+use Rattle.px_app.specs.Run.{Outside, IsUsage, DoesAlone, Serves, Does}
+use Rattle.px_app.specs.Serving.{Served}
+use Rattle.px_app.specs.Tape.{out_end}
+use Rattle.px_app.specs.Words.{Command, Replay, Convert, Gen, Serve, Other, meaning_in, meaning_of, is_serve, alone_in, command_in}
+use Rattle.px_app.proofs.FineLaws.{served_fine}
 use Rattle.px_app.proofs.FrontLaws.{whole_front}
 use Rattle.px_app.proofs.PlayedLaws.{accounted_so, not_write_fault}
 use Rattle.px_app.proofs.ReportLaws as report
@@ -82,3 +91,37 @@ module _ (answered : Status) (ends : Ends) (before after : Log) (r : Reported en
 
   pub is_usage : IsUsage answered ends ends before after
   is_usage = record { same = refl; exact = r; accounted = accounted_so ending.Usage answered ends ends before after (refl, refl) r; others = usage_or_fault }
+
+-- ---- by the command
+
+pub alone_is : (texts : List (List ℕ)) (found : Option Words) → option_map meaning_of found ≡ meaning_in texts → unwrap_or (option_map meaning_of found) Other ≡ alone_in texts
+alone_is texts found is = ap (λ (o : Option Command). unwrap_or o Other) is
+
+module _ {D R C : Type 0} (core_visible : C → Option (List CoreEntry)) (core_faults core_fulls : C → ℕ) (now : D → DeviceState) (visible : R → Option (List LaneEntry)) (faults fulls : R → ℕ)
+    (texts : List (List ℕ)) (answered : Status) (before after : Outside D R C) where
+  abbrev DoesSo : Command → Type 0
+  DoesSo command = Does core_visible core_faults core_fulls now visible faults fulls command texts answered before after
+
+  by_command : (command : Command) → DoesAlone command answered before.ends after.ends before.log after.log → after.host ≡ before.host → DoesSo command
+  by_command (Replay shown) does host = (does, host)
+  by_command Convert does host = (does, host)
+  by_command (Gen number count) does host = (does, host)
+  by_command Other does host = (does, host)
+  by_command Serve does host = absurd does
+
+  pub does_alone : is_serve texts ≡ false → DoesAlone (alone_in texts) answered before.ends after.ends before.log after.log → after.host ≡ before.host → DoesSo (command_in texts)
+  does_alone other does host = subst (λ (b : Bool). DoesSo (cond b Serve (alone_in texts))) (sym other) (by_command (alone_in texts) does host)
+
+  pub does_serve : is_serve texts ≡ true → Serves core_visible core_faults core_fulls now visible faults fulls texts answered before after → DoesSo (command_in texts)
+  does_serve is serves = subst (λ (b : Bool). DoesSo (cond b Serve (alone_in texts))) (sym is) serves
+
+  pub serves : Served core_visible core_faults core_fulls now visible faults fulls texts answered before.host after.host
+      (out_end before.ends.held before.ends.write_faults) (out_end after.ends.held after.ends.write_faults) before.log after.log
+      → after.ends.left ≡ before.ends.left → after.ends.read_faults ≡ before.ends.read_faults → Serves core_visible core_faults core_fulls now visible faults fulls texts answered before after
+  serves s unread quiet = record {
+    exact = s;
+    unread = unread;
+    quiet = quiet;
+    ok = served_fine core_visible core_faults core_fulls now visible faults fulls texts answered before.host after.host
+        (out_end before.ends.held before.ends.write_faults) (out_end after.ends.held after.ends.write_faults) before.log after.log s;
+  }

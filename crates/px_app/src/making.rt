@@ -2,7 +2,7 @@
 
 ghost use Rattle.std.specs.Prelude.{◌≡◌, ℕ, List, Option};
 ghost use Rattle.px_app.specs.Ends.{ends_of, log_end};
-ghost use Rattle.px_app.specs.Making.{Generates, made_by};
+ghost use Rattle.px_app.specs.Making.{Made, Generates, made_by};
 
 use crate::ending::Ending;
 use crate::log::report;
@@ -22,6 +22,22 @@ fn made_by(status: Status) -> Ending
     }
 }
 
+// Writes the session generated from `number` and `count`, and reports how that ended.
+fn make_reported<K: Sink, L: Sink>(
+    alloc: Global,
+    number: u64,
+    count: u32,
+    output: &mut K,
+    log: &mut L,
+) -> Status
+    ensures { (left : Option (List ℕ)) (read : ℕ) → Made number count result
+        (ends_of left read (K.held output.old) (K.faults output.old)) (ends_of left read (K.held output.new) (K.faults output.new))
+        (log_end (L.held log.old) (L.faults log.old)) (log_end (L.held log.new) (L.faults log.new)) }
+{
+    let ended = made_by(generate(alloc, number, count, output));
+    report(alloc, ended, log)
+}
+
 /// Writes the session generated from `number` and `count`, and reports how that ended.
 pub(crate) fn make<K: Sink, L: Sink>(
     alloc: Global,
@@ -34,6 +50,5 @@ pub(crate) fn make<K: Sink, L: Sink>(
         (ends_of left read (K.held output.old) (K.faults output.old)) (ends_of left read (K.held output.new) (K.faults output.new))
         (log_end (L.held log.old) (L.faults log.old)) (log_end (L.held log.new) (L.faults log.new)) }
 {
-    let ended = made_by(generate(alloc, number, count, output));
-    report(alloc, ended, log)
+    make_reported(alloc, number, count, output, log)
 }

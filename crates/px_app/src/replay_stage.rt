@@ -81,6 +81,7 @@ impl Replaying {
 }
 
 impl Stage for Replaying {
+    ghost use Rattle.std.proofs.Math.Nat.{le_trans};
     ghost use Rattle.px_world.specs.World.{World as SpecWorld};
     ghost use Rattle.px_app.specs.declared.view.Lens.{Lens as Glass};
     ghost use Rattle.px_app.specs.View.{Shown, replay_mode};
@@ -133,5 +134,5 @@ impl Stage for Replaying {
         )
     }
 
-    ghost counts_more = { counts_more };
+    ghost counts_more = { λ stage at more less few. record { events = le_trans few.events less; sent = few.sent; closed = few.closed } };
 }
