@@ -12,7 +12,7 @@ pub mod Consistent
 pub mod Played
 pub mod Shapes
 pub mod Going
-pub mod Doing
+pub mod Hearing
 pub mod Sounding
 pub mod Standings
 pub mod Beginning
