@@ -32,9 +32,8 @@ use Rattle.px_outcome.specs.Target.{target_of as target_in}
 use Rattle.px_ctl_play.specs.Asked.{format_on, channels_on, positions_on, spec_on, attr_on, is_lawful, is_supported, feed_on, has_room, MOST_ON_SINK}
 use Rattle.px_ctl_play.specs.Create.{input_made, new_of}
 use Rattle.px_ctl_play.specs.Factors.{own_factors}
-use Rattle.px_ctl_play.specs.Joining.{volume_on, joined}
+use Rattle.px_ctl_play.specs.Joining.{given_on, how_on, joined}
 use Rattle.px_flat.specs.declared.member.Member.{Member}
-use Rattle.px_flat.specs.declared.member.How.TheVariants.{Absolute}
 use Rattle.px_flat.specs.Member.{channels_of}
 use Rattle.px_flat.specs.FlatVolume.{FlatGroup, member_of, factors_of}
 use Rattle.px_flat.proofs.Inputs.{attached_in, attached_channels, attached_there, length_factors, feeds_count}
@@ -140,7 +139,7 @@ asked_by sink a some own can supported =
     let spec_2 = and_parts _ (nat_le a.spec.channels 32) spec_3.0 in
     let spec_1 = and_parts (nat_le a.spec.format 12) (nat_lt 0 a.spec.channels) spec_2.0 in
     let positions = and_parts (nat_eq (length a.map) a.spec.channels) (list_all (λ p. nat_le p 50) a.map) spec_map.1 in
-    let floats = and_parts (not (nat_eq (format_on sink a) 5)) (not (nat_eq (format_on sink a) 6)) (and_parts _ _ (and_parts _ _ supported).0).0 in
+    let floats = and_parts (not (nat_eq (format_on sink a) 5)) (not (nat_eq (format_on sink a) 6)) (and_parts _ _ (and_parts _ _ (and_parts _ _ supported).0).0).0 in
     record {
       format = formats_fit a.fix_format sink a (leb-true a.spec.format 12 spec_1.0);
       no_float_le = eqb-false (format_on sink a) 5 (not-true (nat_eq (format_on sink a) 5) floats.0);
@@ -193,8 +192,8 @@ room_on inputs made me sink e = ltb-true (length (bound_for inputs sink)) MOST_O
 joined_is : (sink : Target) (s : SinkSpec) (inputs : List Input) (a : CreateFields) (feed : List ℕ) (x : Input) (group : FlatGroup) → x.sink ≡ sink.index → channels_of feed ≡ x.spec.channels → IsGroupOf sink.index s inputs group
     → IsGroupOf sink.index s (inputs ++ x ∷ []) (joined group sink a feed x)
 joined_is sink s inputs a feed x group on count is = record {
-  channels = attached_channels x.index (volume_on sink a) Absolute a.muted feed group ∙ is.channels;
-  members = λ i. attached_in x.index (volume_on sink a) Absolute a.muted feed group i
+  channels = attached_channels x.index (given_on sink a) (how_on a) a.muted feed group ∙ is.channels;
+  members = λ i. attached_in x.index (given_on sink a) (how_on a) a.muted feed group i
       ∙ (λ k. is.members i k ++ cond (nat_eq x.index.0 i.0) (count k ∷ []) [])
       ∙ sym (subst (λ (n : SinkId). channels_there (inputs ++ x ∷ []) n i ≡ channels_there inputs n i ++ cond (nat_eq x.index.0 i.0) (x.spec.channels ∷ []) []) on (made_there inputs x i));
 }
@@ -239,7 +238,7 @@ module _ {P : Type 0} (spec_of : P → SampleSpec) (state : State P) (h : IsCons
       (h.grouped.each made.sink.index.0 s made.owner e owned refl)
 
   fit : (s : SinkSpec) → slice_get state.sinks made.sink.index.0 ≡ Some s → length (own_factors after x.index) ≡ s.spec.channels
-  fit s e = own_fits after x.index (attached_there x.index (volume_on made.sink a) Absolute a.muted made.feed made.owner) ∙ (follows s e).channels
+  fit s e = own_fits after x.index (attached_there x.index (given_on made.sink a) (how_on a) a.muted made.feed made.owner) ∙ (follows s e).channels
 
   new : IsNew state x (new_of a after made.feed x)
   new = record {

@@ -114,5 +114,5 @@ pub(crate) fn server<P: Drop>(
     ensures { HandledAs result (server_info (default_sink (state_of tables.now)) version tag) }
 {
     let named = default_sink(alloc, &tables.names, tables.sinks.as_slice())?;
-    server_info(alloc, named, tag, version)
+    server_info(alloc, named, version, tag)
 }

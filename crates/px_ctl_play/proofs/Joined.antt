@@ -1,16 +1,17 @@
 -- The volume of a new input, and the feed by which it joins the group of its sink.
 use Rattle.std.proofs.Common.{◌≡◌, ◌<◌, ◌≤◌, ◌⊎◌, ◌+◌, ◌-◌, ◌++◌, ℕ, zero, suc, arith, Bool, true, false, List, [], ◌∷◌, length, max, cond, Option, Some, None, Ok, refl, ap, sym, subst, ◌∙◌, inl, inr, append_assoc}
-use Rattle.std.specs.Prelude.{All, IfSome, nat_eq, replicate, ◌||◌}
+use Rattle.std.specs.Prelude.{All, IfSome, nat_eq, replicate, ◌||◌, unwrap_or}
 use Rattle.std.specs.List.{AllByRecursion, find, fold}
 use Rattle.std.proofs.lemmas.Bool.{eqb-true}
 use Rattle.std.proofs.lemmas.List.{append-nil}
 use Rattle.px_types.specs.declared.error_code.ErrorCode.{ErrorCode}
 use Rattle.px_chmap.specs.Plan.{FeedsAll}
 use Rattle.px_cmd.specs.declared.command.CreateFields.{CreateFields}
-use Rattle.px_vol.specs.Volume.{IsChannelVolume, greatest}
+use Rattle.px_vol.specs.Volume.{IsChannelVolume, greatest, norm}
 use Rattle.px_flat.specs.Channels.{greatest_of}
 use Rattle.px_flat.specs.declared.member.Member.{Member}
-use Rattle.px_flat.specs.Member.{channels_of, IsMember}
+use Rattle.px_flat.specs.declared.member.How.TheVariants.{Absolute, Relative}
+use Rattle.px_flat.specs.Member.{channels_of, IsMember, SuitsHow}
 use Rattle.px_flat.specs.FlatVolume.{FlatGroup}
 use Rattle.px_flat.proofs.Inputs.{feeds_count}
 use Rattle.px_outcome.specs.declared.target.Named.{Named}
@@ -19,7 +20,7 @@ use Rattle.px_outcome.specs.declared.target.Target.{Target}
 use Rattle.px_outcome.specs.Handled.{check, present}
 use Rattle.px_outcome.specs.Target.{IsTarget, target_of}
 use Rattle.px_ctl_play.specs.Asked.{channels_on, positions_on}
-use Rattle.px_ctl_play.specs.Joining.{volume_on, IsReady, IsReadyAt}
+use Rattle.px_ctl_play.specs.Joining.{volume_on, leaves_volume, given_on, how_on, IsReady, IsReadyAt}
 
 -- the greatest of some volumes is one
 fold_bounded : (a : ℕ) (xs : List ℕ) → a ≤ greatest → All (λ v. v ≤ greatest) xs → fold max a xs ≤ greatest
@@ -53,6 +54,23 @@ suits sink a n e = by (nat_eq (length a.volume) 1) (nat_eq (length a.volume) (ch
     by true c f g = inl (eqb-true (length a.volume) 1 f)
     by false true f g = inr (eqb-true (length a.volume) (channels_on sink a) g ∙ sym e)
     by false false f g = inl refl
+
+-- and so is the volume given to its group
+pub given_suits : (sink : Target) (a : CreateFields) (n : ℕ) → n ≡ channels_on sink a → (length (given_on sink a) ≡ 1) ⊎ (length (given_on sink a) ≡ n)
+given_suits sink a n e = by (leaves_volume a)
+  where
+    by : (left : Bool) → (length (cond left (norm ∷ []) (volume_on sink a)) ≡ 1) ⊎ (length (cond left (norm ∷ []) (volume_on sink a)) ≡ n)
+    by true = inl refl
+    by false = suits sink a n e
+
+-- a new input brings no ratios
+pub brings_none : (a : CreateFields) (n : ℕ) → SuitsHow (how_on a) n
+brings_none a n = by (leaves_volume a) (unwrap_or a.relative_volume false)
+  where
+    by : (left relative : Bool) → SuitsHow (cond left Relative (cond relative Relative Absolute)) n
+    by true relative = tt
+    by false true = tt
+    by false false = tt
 
 -- what was checked holds
 pub check_passed : (b : Bool) (code : ErrorCode) (u : Unit {0}) → check b code ≡ Ok u → b ≡ true

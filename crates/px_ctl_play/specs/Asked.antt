@@ -1,6 +1,6 @@
 -- The stream that a client asks for, and its sample spec, map and attributes on its sink (PulseAudio: `command_create_playback_stream` of
--- pulsecore/protocol-native.c; that other rates, floating point and maps without a channel plan are refused is own).
-use Rattle.std.specs.Prelude.{ℕ, Bool, not, cond, ◌&&◌, ◌||◌, nat_eq, nat_lt, nat_le, List, length, Option}
+-- pulsecore/protocol-native.c; that other rates, floating point, passthrough and maps without a channel plan are refused is own).
+use Rattle.std.specs.Prelude.{ℕ, Bool, false, not, cond, ◌&&◌, ◌||◌, nat_eq, nat_lt, nat_le, List, length, Option, unwrap_or}
 use Rattle.std.specs.List.{list_all}
 use Rattle.px_types.specs.declared.ids.SinkId.{SinkId}
 use Rattle.px_tag.specs.declared.raw.RawSpec.{RawSpec}
@@ -56,10 +56,11 @@ attr_on sink a = repaired (spec_on sink a) a.asked
 
 -- ---- the streams that its sink plays
 
--- no floating point, no variable rate, and the sink's own rate
+-- no floating point, no variable rate, the sink's own rate, and no passthrough, which a version without the field can't ask for
 abbrev pub is_supported : Target → CreateFields → Bool
 is_supported sink a =
     not (nat_eq (format_on sink a) 5) && not (nat_eq (format_on sink a) 6) && not a.variable_rate && nat_eq (rate_on sink a) sink.spec.rate
+    && not (unwrap_or a.passthrough false)
 
 -- the stream channel that feeds each of the sink's channels, by its channel map there, where there is a channel plan
 abbrev pub feed_on : Target → CreateFields → Option (List ℕ)

@@ -208,12 +208,14 @@ fn create_on<P: Drop>(
 }
 
 /// CREATE_PLAYBACK_STREAM of a connection, where `inputs` are all inputs, `made` were ever made, and the named sink has this
-/// group, which can take one more: a stream is created on the sink, in its group at exactly the volume given. Refused, by
-/// the first of these that holds: `Invalid` for an unlawful spec, map or volumes, and where a sink is named by both index
-/// and name; `NoEntity` where no such sink exists; `NotSupported` for floating point, a variable rate or another rate than the
-/// sink's, and where no channel plan feeds the sink's channels from the stream's; `TooLarge` where 256 inputs are bound for
-/// the sink, or 1,024 are live in all, or no number is left. Format, rate and channel map are the sink's where the client
-/// says so. Own: PulseAudio resamples and mixes channels, and has no such limits.
+/// group, which can take one more: a stream is created on the sink. Its volume in the sink's group is the one given, as a part
+/// of the sink's where `relative_volume` is true; where `volume_set` is false, it is the sink's. Refused, by the first of
+/// these that holds: `Invalid` for an unlawful spec, map or volumes, and where a sink is named by both index and name;
+/// `NoEntity` where no such sink exists; `NotSupported` for floating point, a variable rate, another rate than the sink's or
+/// passthrough, and where no channel plan feeds the sink's channels from the stream's; `TooLarge` where 256 inputs are bound
+/// for the sink, or 1,024 are live in all, or no number is left. Format, rate and channel map are the sink's where the client
+/// says so. Own: PulseAudio resamples, mixes channels and has passthrough, and has no such limits; `early_requests` and
+/// `muted_set` have no effect.
 pub fn create<P: Drop>(
     alloc: Global,
     inputs: &[Input],

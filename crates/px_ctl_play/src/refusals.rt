@@ -10,12 +10,17 @@ use px_outcome::{Connection, Input, Standing, Target};
 use px_types::SinkId;
 use px_types::limits::{MAX_INPUTS, MAX_INPUTS_ON_SINK, NO_INDEX};
 
-/// Whether the sink can play the stream: no floating point, no variable rate, and the sink's own rate. Takes no memory.
+/// Whether the sink can play the stream: no floating point, no variable rate, the sink's own rate, and no passthrough. Takes no
+/// memory.
 pub(crate) fn is_supported(sink: &Target, a: &CreateFields) -> bool
     ensures { result ≡ is_supported sink.now a.now }
 {
     let format = format_on(sink, a);
-    format != 5 && format != 6 && !a.variable_rate && rate_on(sink, a) == sink.spec.rate
+    format != 5
+        && format != 6
+        && !a.variable_rate
+        && rate_on(sink, a) == sink.spec.rate
+        && !a.passthrough.unwrap_or(false)
 }
 
 // Whether an input on the sink `on` belongs to `sink`.

@@ -9,6 +9,7 @@ use Rattle.px_reply.specs.declared.info.InputInfo.{InputInfo}
 use Rattle.px_reply.specs.declared.info.ClientInfo.{ClientInfo}
 use Rattle.px_reply.specs.Front.{reply_to}
 use Rattle.px_reply.specs.Info.{with_sink, with_input, with_client}
+use Rattle.px_ctl_info.specs.Clients.{SERVER_VERSION}
 use Rattle.px_subscribe.specs.declared.event.Facility.{Facility}
 use Rattle.px_subscribe.specs.declared.event.Facility.TheVariants.{Sink, Input, Client}
 use Rattle.px_subscribe.specs.declared.event.Event.{Event}
@@ -204,7 +205,7 @@ module _ {A : Type 0} (index : A → ℕ) (bytes : A → List ℕ) where
   same_all f before after (i ∷ is) = λ k. same_at f before after i k ++ same_all f before after is k
 
 pub sinks_same : (before after : List SinkInfo) (given : ℕ) → sinks_events before after given ≡ events_in_bytes Sink (map sink_info_bytes before) (map sink_info_bytes after) given
-sinks_same before after given = same_all SinkInfo.index (with_sink (reply_to 0)) Sink before after (range_with_len 0 given)
+sinks_same before after given = same_all SinkInfo.index (with_sink SERVER_VERSION (reply_to 0)) Sink before after (range_with_len 0 given)
 
 pub inputs_same : (before after : List InputInfo) (given : ℕ) → inputs_events before after given ≡ events_in_bytes Input (map input_info_bytes before) (map input_info_bytes after) given
 inputs_same before after given = same_all InputInfo.index (with_input (reply_to 0)) Input before after (range_with_len 0 given)

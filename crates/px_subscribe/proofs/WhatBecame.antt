@@ -9,6 +9,7 @@ use Rattle.std.proofs.lemmas.Bool.{eq-eqb}
 use Rattle.std.proofs.lemmas.Bool.Decides.{nat_tests}
 use Rattle.px_reply.specs.Front.{reply_to}
 use Rattle.px_reply.specs.Info.{server_reply, with_sink, with_input, with_client}
+use Rattle.px_ctl_info.specs.Clients.{SERVER_VERSION}
 use Rattle.px_subscribe.specs.declared.event.Facility.{Facility}
 use Rattle.px_subscribe.specs.declared.event.Facility.TheVariants.{Sink, Input, Client, Server}
 use Rattle.px_subscribe.specs.declared.event.Kind.{Kind}
@@ -131,7 +132,7 @@ third_alone a = append-nil ([] ++ [] ++ a)
 
 module _ (given : Given) (before after : Infos) where
   abbrev of_sinks : List Event
-  of_sinks = events_of Sink (with_sink (reply_to 0)) before.sinks after.sinks given.sinks
+  of_sinks = events_of Sink (with_sink SERVER_VERSION (reply_to 0)) before.sinks after.sinks given.sinks
 
   abbrev of_inputs : List Event
   of_inputs = events_of Input (with_input (reply_to 0)) before.inputs after.inputs given.inputs
@@ -153,10 +154,10 @@ module _ (given : Given) (before after : Infos) where
 
   not_server : (f : Facility) (i : ℕ) → nat_eq (facility_code Server) (facility_code f) ≡ false → about f i of_server ≡ []
   not_server f i apart =
-      other f Server i NO_INDEX (became (server_reply 0) before.server after.server) (apart_left (nat_eq (facility_code Server) (facility_code f)) (nat_eq NO_INDEX i) apart)
+      other f Server i NO_INDEX (became (server_reply SERVER_VERSION 0) before.server after.server) (apart_left (nat_eq (facility_code Server) (facility_code f)) (nat_eq NO_INDEX i) apart)
 
   no_sink : (f : Facility) (i : ℕ) → nat_eq (facility_code Sink) (facility_code f) ≡ false → about f i of_sinks ≡ []
-  no_sink f i apart = strange f Sink apart (with_sink (reply_to 0)) before.sinks after.sinks i (range_with_len 0 given.sinks)
+  no_sink f i apart = strange f Sink apart (with_sink SERVER_VERSION (reply_to 0)) before.sinks after.sinks i (range_with_len 0 given.sinks)
 
   no_input : (f : Facility) (i : ℕ) → nat_eq (facility_code Input) (facility_code f) ≡ false → about f i of_inputs ≡ []
   no_input f i apart = strange f Input apart (with_input (reply_to 0)) before.inputs after.inputs i (range_with_len 0 given.inputs)
@@ -167,9 +168,9 @@ module _ (given : Given) (before after : Infos) where
   pub say_what_became : SayWhatBecame given before after
   say_what_became = record {
     sinks = λ i l.
-        only Sink i (events_at Sink (with_sink (reply_to 0)) before.sinks after.sinks i) [] [] []
-        (each Sink (with_sink (reply_to 0)) before.sinks after.sinks i 0 given.sinks (omega arith) (omega (arith, l))) (no_input Sink i refl) (no_client Sink i refl) (not_server Sink i refl)
-        ∙ first_alone (events_at Sink (with_sink (reply_to 0)) before.sinks after.sinks i);
+        only Sink i (events_at Sink (with_sink SERVER_VERSION (reply_to 0)) before.sinks after.sinks i) [] [] []
+        (each Sink (with_sink SERVER_VERSION (reply_to 0)) before.sinks after.sinks i 0 given.sinks (omega arith) (omega (arith, l))) (no_input Sink i refl) (no_client Sink i refl) (not_server Sink i refl)
+        ∙ first_alone (events_at Sink (with_sink SERVER_VERSION (reply_to 0)) before.sinks after.sinks i);
     inputs = λ i l.
         only Input i [] (events_at Input (with_input (reply_to 0)) before.inputs after.inputs i) [] []
         (no_sink Input i refl) (each Input (with_input (reply_to 0)) before.inputs after.inputs i 0 given.inputs (omega arith) (omega (arith, l))) (no_client Input i refl) (not_server Input i refl)
@@ -179,7 +180,7 @@ module _ (given : Given) (before after : Infos) where
         (no_sink Client i refl) (no_input Client i refl) (each Client (with_client (reply_to 0)) before.clients after.clients i 0 given.clients (omega arith) (omega (arith, l))) (not_server Client i refl)
         ∙ third_alone (events_at Client (with_client (reply_to 0)) before.clients after.clients i);
     server = only Server NO_INDEX [] [] [] of_server (no_sink Server NO_INDEX refl) (no_input Server NO_INDEX refl) (no_client Server NO_INDEX refl)
-        (own Server NO_INDEX (became (server_reply 0) before.server after.server));
+        (own Server NO_INDEX (became (server_reply SERVER_VERSION 0) before.server after.server));
   }
 
 -- ---- between a moment and itself
@@ -198,8 +199,8 @@ none_of f info_bytes infos (i ∷ is) = ap (λ (first : List Event). first ++ fl
 pub none_between : (given : Given) (infos : Infos) → events_between given infos infos ≡ []
 none_between given infos =
     joined_four
-    (events_of Sink (with_sink (reply_to 0)) infos.sinks infos.sinks given.sinks) [] (events_of Input (with_input (reply_to 0)) infos.inputs infos.inputs given.inputs) []
+    (events_of Sink (with_sink SERVER_VERSION (reply_to 0)) infos.sinks infos.sinks given.sinks) [] (events_of Input (with_input (reply_to 0)) infos.inputs infos.inputs given.inputs) []
     (events_of Client (with_client (reply_to 0)) infos.clients infos.clients given.clients) [] (server_events infos infos) []
-    (none_of Sink (with_sink (reply_to 0)) infos.sinks (range_with_len 0 given.sinks)) (none_of Input (with_input (reply_to 0)) infos.inputs (range_with_len 0 given.inputs))
+    (none_of Sink (with_sink SERVER_VERSION (reply_to 0)) infos.sinks (range_with_len 0 given.sinks)) (none_of Input (with_input (reply_to 0)) infos.inputs (range_with_len 0 given.inputs))
     (none_of Client (with_client (reply_to 0)) infos.clients (range_with_len 0 given.clients))
-    (ap (λ o. option_to_list (option_map (event Server NO_INDEX) o)) (nothing_became (server_reply 0) infos.server))
+    (ap (λ o. option_to_list (option_map (event Server NO_INDEX) o)) (nothing_became (server_reply SERVER_VERSION 0) infos.server))

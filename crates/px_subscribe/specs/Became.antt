@@ -3,6 +3,7 @@ use Rattle.std.specs.Prelude.{◌≡◌, ℕ, ◌<◌, Bool, cond, ◌&&◌, nat
 use Rattle.std.specs.List.{range_with_len}
 use Rattle.px_reply.specs.Front.{reply_to}
 use Rattle.px_reply.specs.Info.{server_reply, with_sink, with_input, with_client}
+use Rattle.px_ctl_info.specs.Clients.{SERVER_VERSION}
 use Rattle.px_subscribe.specs.declared.event.Facility.{Facility}
 use Rattle.px_subscribe.specs.declared.event.Facility.TheVariants.{Sink, Input, Client, Server}
 use Rattle.px_subscribe.specs.declared.event.Kind.{Kind}
@@ -34,12 +35,12 @@ abbrev pub events_of : {A : Type 0} → Facility → (A → List ℕ) → (ℕ �
 events_of facility info_bytes before after given = flat_map (events_at facility info_bytes before after) (range_with_len 0 given)
 
 abbrev pub server_events : Infos → Infos → List Event
-server_events before after = option_to_list (option_map (event Server NO_INDEX) (became (server_reply 0) before.server after.server))
+server_events before after = option_to_list (option_map (event Server NO_INDEX) (became (server_reply SERVER_VERSION 0) before.server after.server))
 
--- sinks, inputs, clients, and then the server
+-- sinks, inputs, clients, and then the server, each by its info at the server's version
 abbrev pub events_between : Given → Infos → Infos → List Event
 events_between given before after =
-    events_of Sink (with_sink (reply_to 0)) before.sinks after.sinks given.sinks
+    events_of Sink (with_sink SERVER_VERSION (reply_to 0)) before.sinks after.sinks given.sinks
     ++ events_of Input (with_input (reply_to 0)) before.inputs after.inputs given.inputs
     ++ events_of Client (with_client (reply_to 0)) before.clients after.clients given.clients
     ++ server_events before after
@@ -54,7 +55,7 @@ about facility index events = filter (is_about facility index) events
 
 -- the events about an object are the one of its kind by its infos, or none
 pub record SayWhatBecame (given : Given) (before after : Infos) : Type 0 where
-  pub sinks : (i : ℕ) → i < given.sinks → about Sink i (events_between given before after) ≡ events_at Sink (with_sink (reply_to 0)) before.sinks after.sinks i
+  pub sinks : (i : ℕ) → i < given.sinks → about Sink i (events_between given before after) ≡ events_at Sink (with_sink SERVER_VERSION (reply_to 0)) before.sinks after.sinks i
   pub inputs : (i : ℕ) → i < given.inputs → about Input i (events_between given before after) ≡ events_at Input (with_input (reply_to 0)) before.inputs after.inputs i
   pub clients : (i : ℕ) → i < given.clients → about Client i (events_between given before after) ≡ events_at Client (with_client (reply_to 0)) before.clients after.clients i
   pub server : about Server NO_INDEX (events_between given before after) ≡ server_events before after

@@ -8,6 +8,7 @@ use Rattle.px_reply.specs.declared.info.ClientInfo.{ClientInfo}
 use Rattle.px_reply.specs.declared.info.ServerInfo.{ServerInfo}
 use Rattle.px_reply.specs.Front.{reply_to}
 use Rattle.px_reply.specs.Info.{with_sink, with_input, with_client}
+use Rattle.px_ctl_info.specs.Clients.{SERVER_VERSION}
 use Rattle.px_subscribe.specs.declared.event.Facility.{Facility}
 use Rattle.px_subscribe.specs.declared.event.Facility.TheVariants.{Sink, Input, Client}
 use Rattle.px_subscribe.specs.declared.event.Event.{Event}
@@ -69,7 +70,7 @@ given_by counts = record { sinks = counts.sinks; inputs = counts.inputs; clients
 
 -- the events of each facility
 abbrev pub sinks_events : List SinkInfo → List SinkInfo → ℕ → List Event
-sinks_events before after given = events_of Sink (with_sink (reply_to 0)) (sink_at before) (sink_at after) given
+sinks_events before after given = events_of Sink (with_sink SERVER_VERSION (reply_to 0)) (sink_at before) (sink_at after) given
 
 abbrev pub inputs_events : List InputInfo → List InputInfo → ℕ → List Event
 inputs_events before after given = events_of Input (with_input (reply_to 0)) (input_at before) (input_at after) given
@@ -80,7 +81,7 @@ clients_events before after given = events_of Client (with_client (reply_to 0)) 
 -- ---- each as an index and bytes
 
 abbrev pub sink_info_bytes : SinkInfo → InfoBytes
-sink_info_bytes info = record { index = info.index; bytes = with_sink (reply_to 0) info }
+sink_info_bytes info = record { index = info.index; bytes = with_sink SERVER_VERSION (reply_to 0) info }
 
 abbrev pub input_info_bytes : InputInfo → InfoBytes
 input_info_bytes info = record { index = info.index; bytes = with_input (reply_to 0) info }

@@ -3,6 +3,7 @@
 ghost use Rattle.std.specs.Prelude.{◌≡◌, ◌++◌, ◌≤◌, Option, All, IfSome, IfOk, OnOk};
 ghost use Rattle.std.specs.Option.{option_to_list};
 ghost use Rattle.px_reply.specs.Info.{server_reply};
+ghost use Rattle.px_ctl_info.specs.Clients.{SERVER_VERSION};
 ghost use Rattle.px_subscribe.specs.declared.event.Facility.TheVariants.{Sink, Input, Client, Server};
 ghost use Rattle.std.specs.Option.{option_map};
 ghost use Rattle.px_subscribe.specs.Infos.{Given};
@@ -112,7 +113,7 @@ fn add_all(
 // The bytes of the server's info, in a reply.
 fn server_in_bytes(alloc: Global, info: &Option<ServerInfo>) -> Mem<Option<Packet>>
     requires { IfSome info.now IsWritableServer }
-    ensures { IfOk result (λ bytes. bytes ≡ option_map (server_reply 0) info.now) }
+    ensures { IfOk result (λ bytes. bytes ≡ option_map (server_reply SERVER_VERSION 0) info.now) }
 {
     match info {
         None => Ok(None),
@@ -142,7 +143,7 @@ fn add_server(
 ) -> Mem<()>
     requires before { IfSome before.now IsWritableServer }
     requires after { IfSome after.now IsWritableServer }
-    ensures { OnOk result (events.new.items ≡ events.old.items ++ option_to_list (option_map (event Server NO_INDEX) (became (server_reply 0) before.now after.now))) }
+    ensures { OnOk result (events.new.items ≡ events.old.items ++ option_to_list (option_map (event Server NO_INDEX) (became (server_reply SERVER_VERSION 0) before.now after.now))) }
 {
     let before = server_in_bytes(alloc, before)?;
     let after = server_in_bytes(alloc, after)?;

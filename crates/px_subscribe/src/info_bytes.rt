@@ -1,4 +1,4 @@
-//! Objects with the bytes of their infos.
+//! Objects with the bytes of their infos, at the server's version of the protocol.
 
 ghost use Rattle.std.specs.Prelude.{◌≡◌, ◌<◌, ◌^◌, ◌++◌, ◌∷◌, ◌≤◌, List, All, IsTrue, IfOk, OnOk, map};
 ghost use Rattle.std.specs.Option.{option_map};
