@@ -1,6 +1,6 @@
 -- What the definitions compute to for the sessions worked by hand.
 use Rattle.std.proofs.Common.{◌≡◌, refl}
-use Rattle.px_tag.specs.Item.{number, text, spec, channel_map, channel_volumes, flag, usec, proplist}
+use Rattle.px_tag.specs.Item.{number, text, spec, channel_map, channel_volumes, volume, flag, usec, proplist}
 use Rattle.px_frame.specs.Descriptor.{descriptor_in}
 use Rattle.px_frame.specs.Meaning.{meaning_of}
 use Rattle.px_state.specs.Events.{step_events}
@@ -15,7 +15,7 @@ unfolding meaning_of descriptor_in
 small-admitted = (refl, (refl, (refl, (refl, (refl, (refl, (refl, tt)))))))
 
 pub small-given : output_of small_header small_events ≡ small_output
-unfolding meaning_of descriptor_in sent_record closed_record played_record step_events number text spec channel_map channel_volumes flag usec proplist
+unfolding meaning_of descriptor_in sent_record closed_record played_record step_events number text spec channel_map channel_volumes volume flag usec proplist
 small-given = refl
 
 pub moving-admitted : AreAdmitted small_world moving_events
@@ -28,5 +28,5 @@ pub stopping-admitted : AreAdmitted (new_world stopping_header) stopping_events
 stopping-admitted = (refl, (refl, (refl, tt)))
 
 pub stopping-given : output_of stopping_header stopping_events ≡ stopping_output
-unfolding stopped_record
+unfolding stopped_record step_events number text spec channel_map channel_volumes volume flag usec proplist
 stopping-given = refl

@@ -155,7 +155,7 @@ impl Playing {
 
     // Notes that the sink has stopped: its filled count, where that is new.
     fn halt(&mut self) -> Option<u64>
-        ensures { result ≡ cond self.old.stopped None (Some self.old.lane.sink.filled) }
+        ensures value { result ≡ cond self.old.stopped None (Some self.old.lane.sink.filled) }
         ensures after { self.new ≡ record self.old { stopped = true } }
     {
         if self.stopped {
