@@ -6,7 +6,7 @@ use Rattle.std.proofs.lemmas.Bool.{cases_Bool, cond-true, cond-false, lt-ltb, le
 use Rattle.std.proofs.lemmas.List.{length-map, map-set}
 use Rattle.std.proofs.lemmas.Option.{none-some, same_Some, slice_get-map, slice_get-get_or}
 use Rattle.px_types.specs.declared.ids.SinkId.{SinkId}
-use Rattle.px_session.specs.declared.event.Event.TheVariants.{Turn, Collect, Stop}
+use Rattle.px_session.specs.declared.event.Event.TheVariants.{Turn, Collect}
 use Rattle.px_model.specs.Stream.{Stream}
 use Rattle.px_model.specs.Notice.{Notice}
 use Rattle.px_model.specs.Turn.{AreFor}
@@ -21,8 +21,8 @@ use Rattle.px_world.specs.declared.fault.WorldFault.{WorldFault}
 use Rattle.px_world.specs.declared.fault.WorldFault.TheVariants.{Live, NotLive, NoSink, Worn, TooMany, NoMemory}
 use Rattle.px_world.specs.declared.outcome.Outcome.{Outcome}
 use Rattle.px_world.specs.World.{World, Mixer}
-use Rattle.px_world.specs.Admission.{LAST_FILLED, too_many, or_else, refusal_of, turn_refusal, collect_refusal, stop_refusal}
-use Rattle.px_world.specs.Event.{notices_of, change_at, mixer_turned, mixer_collected, set_to_fail, played_of, stopped_of}
+use Rattle.px_world.specs.Admission.{LAST_FILLED, too_many, or_else, refusal_of, turn_refusal, collect_refusal}
+use Rattle.px_world.specs.Event.{notices_of, change_at, mixer_turned, mixer_collected, played_of, stopped_of}
 use Rattle.px_world.specs.Parts.{Unless, Plays}
 use Rattle.px_world.specs.Consistency.{HasStream, GivesStream, AreConsistent}
 use Rattle.px_world.proofs.Giving.{take_gives, drop_gives}
@@ -154,20 +154,6 @@ module _ (w : World) (core : State Stream) (ms : List Mixer) (same_core : w.core
       core = e ∙ ap (λ o. stepped_by Stream.spec core (map (λ (n : Notice Stream). notice (record { 0 = k }) (notice_for n)) (take count (notices_of o)) ++ sweep ∷ [])) (sym here);
       mixed = mixed ∙ ap (λ l. change_at l k (slice_get l k) (λ x. mixer_collected x count)) (sym same_mixers);
       caused = caused ∙ ap (λ o. effects_by Stream.spec core (map (λ (n : Notice Stream). notice (record { 0 = k }) (notice_for n)) (take count (notices_of o)) ++ sweep ∷ [])) (sym here);
-      counted = counted;
-      bytes = bytes;
-      stopped = stopped;
-    }
-
-    -- the sink's device is set to fail
-    pub stops : (after : State Stream) (mixers : List Mixer) (outcome : Outcome) → after ≡ stepped_by Stream.spec core (sweep ∷ [])
-        → mixers ≡ change_at ms k (slice_get ms k) set_to_fail → outcome.effects ≡ effects_by Stream.spec core (sweep ∷ [])
-        → outcome.frames ≡ 0 → outcome.played ≡ [] → outcome.stopped ≡ None → Plays core after mixers w (Stop (record { 0 = k })) outcome
-    stops after mixers outcome e mixed caused counted bytes stopped = record {
-      admitted = ap stop_refusal here;
-      core = e;
-      mixed = mixed ∙ ap (λ l. change_at l k (slice_get l k) set_to_fail) (sym same_mixers);
-      caused = caused;
       counted = counted;
       bytes = bytes;
       stopped = stopped;
