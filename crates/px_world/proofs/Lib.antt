@@ -24,3 +24,4 @@ pub mod Places
 pub mod Moving
 pub mod Turning
 pub mod Joining
+pub mod Stopping

@@ -4,12 +4,15 @@ ghost use Rattle.std.specs.Prelude.{◌≡◌, ℕ, ◌<◌, List, [], ◌∷◌
 ghost use Rattle.std.specs.List.{slice_get};
 ghost use Rattle.px_header.specs.declared.header.Header.{Header};
 ghost use Rattle.px_header.specs.declared.header.SinkSpec.{SinkSpec};
+ghost use Rattle.px_types.specs.declared.ids.SinkId.{SinkId};
 ghost use Rattle.px_session.specs.declared.event.Event.{Event};
+ghost use Rattle.px_session.specs.declared.event.Event.TheVariants.{Stop};
+ghost use Rattle.px_state.specs.State.{marked_of};
 ghost use Rattle.px_model.specs.Deciding.{replay, replay_played, IsHistory};
 ghost use Rattle.px_stream.specs.Samples.{samples};
 ghost use Rattle.px_world.specs.World.{World, new_world};
 ghost use Rattle.px_world.specs.Admission.{refusal_of};
-ghost use Rattle.px_world.specs.Event.{world_after, effects_after};
+ghost use Rattle.px_world.specs.Event.{world_after, effects_after, world_stopping};
 ghost use Rattle.px_world.specs.Output.{world_by, records_of, records_by, effects_by_run, AreAdmitted, output_of};
 ghost use Rattle.px_world.specs.History.{history_by, played_by_run, begun, sink_at, AreDecided};
 ghost use Rattle.px_header.specs.HeaderRules.{IsHeader};
@@ -92,6 +95,15 @@ pub fn runs_join()
         → AreAdmitted (world_by w earlier) later → AreAdmitted w (earlier ++ later) }
     ensures split { (w : World) (earlier later : List Event) → AreAdmitted w (earlier ++ later)
         → AreAdmitted w earlier × AreAdmitted (world_by w earlier) later }
+{}
+
+/// Where no connection waits to be swept away, an event `Stop` does what `World::stop` does, and nothing else: it has no
+/// effects. Source: own.
+pub fn stops_are_events()
+    ensures world { (w : World) (sink : SinkId) → marked_of w.core.connections ≡ []
+        → world_after w (Stop sink) ≡ world_stopping w sink.0 }
+    ensures effects { (w : World) (sink : SinkId) → marked_of w.core.connections ≡ []
+        → effects_after w (Stop sink) ≡ [] }
 {}
 
 /// The definitions give the output of two small sessions, one in which a sink stops, and the track of an input over a small
