@@ -36,10 +36,10 @@ use Rattle.px_world.proofs.Turning.{JoinsOn, GoesOn, turn-goes-on}
 -- ---- one event
 
 -- a world in which the stream of the input can go on after its last stretch
-abbrev HoldsIn : World → ℕ → Option Stretch → Type 0
+abbrev pub HoldsIn : World → ℕ → Option Stretch → Type 0
 HoldsIn w i last = Holds w.core w.mixers i last
 
-abbrev GoesOnIn : World → ℕ → Option Stretch → List Stretch → Type 0
+abbrev pub GoesOnIn : World → ℕ → Option Stretch → List Stretch → Type 0
 GoesOnIn w i last track = GoesOn w.core w.mixers i last track
 
 -- nothing is settled
@@ -77,7 +77,7 @@ stop-goes w sink i last None there admitted h = absurd (none-some NoSink (sym ad
 stop-goes w sink i last (Some m) there admitted h =
     fail-holds (stepped_by Stream.spec w.core (sweep ∷ [])) w.mixers sink.0 i last m there (plain-holds w.core w.mixers (sweep ∷ []) i last sweep-plain h)
 
-event-goes : (w : World) (e : Event) (i : ℕ) (last : Option Stretch) → refusal_of w e ≡ None → HoldsIn w i last → GoesOnIn (world_after w e) i last (stretches_of (settled_by w e i))
+pub event-goes : (w : World) (e : Event) (i : ℕ) (last : Option Stretch) → refusal_of w e ≡ None → HoldsIn w i last → GoesOnIn (world_after w e) i last (stretches_of (settled_by w e i))
 event-goes w (Connect conn) i last admitted h = plain-rests w (Connect conn) i last (record { is = tt; spares = λ sink. tt; gives = refl }, sweep-plain) refl h
 event-goes w (Bytes conn bytes) i last admitted h =
     plain-rests w (Bytes conn bytes) i last
@@ -129,7 +129,7 @@ none-ready-at i (s ∷ sinks) = (record { stays = tt; gives = tt }, none-ready-a
 one-at-most : (i made : ℕ) → unborn i made ≤ 1
 one-at-most i made = cond_both (nat_lt i made) 0 1 (λ n. n ≤ 1) (λ e. omega arith) (λ e. omega arith)
 
-holds-first : (header : Header) (i : ℕ) → IsHeader header → HoldsIn (new_world header) i None
+pub holds-first : (header : Header) (i : ℕ) → IsHeader header → HoldsIn (new_world header) i None
 holds-first header i h = record {
   consistent = consistent-first header h;
   stands = record {

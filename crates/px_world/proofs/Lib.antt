@@ -25,3 +25,4 @@ pub mod Moving
 pub mod Turning
 pub mod Joining
 pub mod Stopping
+pub mod Sweeping

@@ -45,7 +45,7 @@ stands-steps core mixers later steps i last consistent is takes fewer each h =
       each = each;
     }
 
-plain-are : (steps : List (Step Stream)) → ArePlain steps → AllByRecursion IsStep steps
+pub plain-are : (steps : List (Step Stream)) → ArePlain steps → AllByRecursion IsStep steps
 plain-are [] h = tt
 plain-are (s ∷ steps) h = (IsPlain.is h.0, plain-are steps h.1)
 

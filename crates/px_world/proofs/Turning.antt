@@ -71,7 +71,7 @@ all-open-ready i last (m ∷ ms) h = (opens-ready i last m h.0, all-open-ready i
 abbrev outs_of : ℕ → SinkId → List (Step Stream)
 outs_of n sink = replicate n (out sink)
 
-outs-are : (n : ℕ) (sink : SinkId) → AllByRecursion IsStep (outs_of n sink)
+pub outs-are : (n : ℕ) (sink : SinkId) → AllByRecursion (IsStep {P = Stream}) (replicate n (out sink))
 outs-are zero sink = tt
 outs-are (suc n) sink = (tt, outs-are n sink)
 

@@ -97,13 +97,17 @@ pub fn runs_join()
         → AreAdmitted w earlier × AreAdmitted (world_by w earlier) later }
 {}
 
-/// Where no connection waits to be swept away, an event `Stop` does what `World::stop` does, and nothing else: it has no
-/// effects. Source: own.
+/// After each event of a run no connection waits to be swept away, and where none does an event `Stop` does what `World::stop`
+/// does, and nothing else: it has no effects. So a run with calls of `World::stop` between its events is a run of events.
+/// Source: own.
 pub fn stops_are_events()
     ensures world { (w : World) (sink : SinkId) → marked_of w.core.connections ≡ []
         → world_after w (Stop sink) ≡ world_stopping w sink.0 }
     ensures effects { (w : World) (sink : SinkId) → marked_of w.core.connections ≡ []
         → effects_after w (Stop sink) ≡ [] }
+    ensures swept { (header : Header) (events : List Event) → IsHeader header
+        → AreAdmitted (new_world header) events
+        → marked_of (world_by (new_world header) events).core.connections ≡ [] }
 {}
 
 /// The definitions give the output of two small sessions, one in which a sink stops, and the track of an input over a small
