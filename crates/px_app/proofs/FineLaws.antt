@@ -1,5 +1,5 @@
 -- Where a serving call ends with status Ok, nothing of its host failed.
-use Rattle.std.proofs.Common.{◌≡◌, ◌⊎◌, inl, inr, ℕ, Bool, List, [], ◌∷◌, Option, None, Some, refl, sym, ap, subst, ◌∙◌, arith}
+use Rattle.std.proofs.Common.{◌≡◌, inl, inr, ℕ, Bool, List, [], ◌∷◌, Option, None, Some, refl, sym, ap, subst, ◌∙◌}
 use Rattle.std.specs.Prelude.{MatchOption}
 use Rattle.std.specs.Option.{option_or}
 use Rattle.px_types.specs.declared.status.Status.{Status}
@@ -24,9 +24,9 @@ use Rattle.px_workers.specs.declared.sink_state.SinkFault.TheVariants as sink_fa
 use Rattle.px_workers.specs.Working.{IsFaultOf}
 use Rattle.px_workers.specs.Hosted.{IsLater, IsCauseOf}
 use Rattle.px_server.specs.declared.served.LanePart.{LanePart}
-use Rattle.px_server.specs.Causes.{status_of_record, status_of_fault, met_or_fine, recorded_or_met, recorded, decided}
+use Rattle.px_server.specs.Causes.{status_of_record, status_of_fault, met_or_fine, decided}
 use Rattle.px_server.specs.Parts.{Worked, AreParts}
-use Rattle.px_server.specs.Serving.{first_met, IsServed}
+use Rattle.px_server.specs.Serving.{first_met}
 use Rattle.px_app.specs.declared.refusal.Refusal.{Refusal}
 use Rattle.px_app.specs.declared.ending.Ending.{Ending}
 use Rattle.px_app.specs.declared.ending.Ending.TheVariants as ending

@@ -24,7 +24,7 @@ use Rattle.px_app.specs.declared.view.Lens.TheVariants as lens
 use Rattle.px_app.specs.declared.ending.Ending.{Ending}
 use Rattle.px_app.specs.declared.ending.Ending.TheVariants as ending
 use Rattle.px_app.specs.Ends.{Ends, Log}
-use Rattle.px_app.specs.Mode.{state_by, state_after, AreAdmitted, shown_by, parts_by, output_by}
+use Rattle.px_app.specs.Mode.{state_by, state_after, AreAdmitted, shown_by, output_by}
 use Rattle.px_app.specs.Played.{InputPlayed, Played}
 use Rattle.px_app.specs.Replay.{IsAfter, Unmade, Replays}
 use Rattle.px_app.specs.Session.{IsPlayed}

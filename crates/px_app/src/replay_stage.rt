@@ -54,11 +54,7 @@ fn close<K: Sink>(
 
 impl Replaying {
     /// The stage for a view of a session with this header. `NoSuchSink` where none of its sinks has the view's name, and `Memory`.
-    pub(crate) fn new(
-        alloc: Global,
-        view: View<'_>,
-        header: Header,
-    ) -> Result<Replaying, Ending>
+    pub(crate) fn new(alloc: Global, view: View<'_>, header: Header) -> Result<Replaying, Ending>
         requires { IsHeader header }
         ensures looks { IfOk result (λ stage. lens_of (shown_of view.entry) header.sinks ≡ Some stage.lens) }
         ensures stands { IfOk result (λ stage. IsAfter stage stage.lens header []) }

@@ -20,7 +20,9 @@ use std::alloc::Global;
 pub(crate) trait Stage {
     /// The mode's states, what may be asked of it, and how it looks at a session.
     ghost State: { Type 0 };
+
     ghost Asked: { Type 0 };
+
     ghost Look: { Type 0 };
 
     /// The mode.
