@@ -6,6 +6,7 @@ use Rattle.px_session.specs.declared.event.Event.{Event}
 use Rattle.px_session.specs.declared.event.Step.TheVariants as step
 use Rattle.px_session.specs.declared.fault.Cause.{Cause}
 use Rattle.px_session.specs.declared.fault.Cause.TheVariants as cause
+use Rattle.px_session.specs.declared.form.Form.{Form}
 use Rattle.px_session.specs.Place.{Place, Reading, Refusal as Broken, start_of}
 use Rattle.px_session.specs.HeaderReading.{header_at}
 use Rattle.px_session.specs.EventReading.{event_at}
@@ -20,42 +21,45 @@ use Rattle.px_app.proofs.ModeLaws.{admitted-push}
 
 -- ---- more bytes behind
 
-pub header_more : (place : Place) (h : Header) (after : Place) (behind : List ℕ) → header_at place ≡ Ok (h, after) → header_at (more place behind) ≡ Ok (h, more after behind)
+pub header_more : (place : Place) (h : Form × Header) (after : Place) (behind : List ℕ) → header_at place ≡ Ok (h, after) → header_at (more place behind) ≡ Ok (h, more after behind)
 header_more place h after behind e = header_steady.ok place (h, after) behind e tt
 
-pub event_more : (place : Place) (e : Event) (after : Place) (behind : List ℕ) → event_at place ≡ Ok (step.Event e, after) → event_at (more place behind) ≡ Ok (step.Event e, more after behind)
-event_more place e after behind read = event_steady.ok place (step.Event e, after) behind read tt
+pub event_more : (form : Form) (place : Place) (e : Event) (after : Place) (behind : List ℕ) → event_at form place ≡ Ok (step.Event e, after) → event_at form (more place behind) ≡ Ok (step.Event e, more after behind)
+event_more form place e after behind read = (event_steady form).ok place (step.Event e, after) behind read tt
 
-lead_more : (events : List Event) (start here : Place) (behind : List ℕ) → Lead events start here → Lead events (more start behind) (more here behind)
-lead_more [] start here behind lead = ap (λ (z : Place). more z behind) lead
-lead_more (e ∷ events) start here behind lead = (more lead.0 behind, event_more start e lead.0 behind lead.1, lead_more events lead.0 here behind lead.2)
+pub lead_more : (form : Form) (events : List Event) (start here : Place) (behind : List ℕ) → Lead form events start here → Lead form events (more start behind) (more here behind)
+lead_more form [] start here behind lead = ap (λ (z : Place). more z behind) lead
+lead_more form (e ∷ events) start here behind lead = (more lead.0 behind, event_more form start e lead.0 behind lead.1, lead_more form events lead.0 here behind lead.2)
 
-lead_next : (events : List Event) (e : Event) (start here after : Place) → Lead events start here → event_at here ≡ Ok (step.Event e, after) → Lead (events ++ e ∷ []) start after
-lead_next [] e start here after lead read = (after, subst (λ (z : Place). event_at z ≡ Ok (step.Event e, after)) lead read, refl)
-lead_next (d ∷ events) e start here after lead read = (lead.0, lead.1, lead_next events e lead.0 here after lead.2 read)
+pub lead_next : (form : Form) (events : List Event) (e : Event) (start here after : Place) → Lead form events start here → event_at form here ≡ Ok (step.Event e, after) → Lead form (events ++ e ∷ []) start after
+lead_next form [] e start here after lead read = (after, subst (λ (z : Place). event_at form z ≡ Ok (step.Event e, after)) lead read, refl)
+lead_next form (d ∷ events) e start here after lead read = (lead.0, lead.1, lead_next form events e lead.0 here after lead.2 read)
 
 module _ {W : Type 0} (course : Course W) where
-  pub begins_more : (bytes : List ℕ) (header : Header) (events : List Event) (here : Place) (behind : List ℕ) → Begins course bytes header events here → Begins course (bytes ++ behind) header events (more here behind)
+  abbrev pub begins_more : (bytes : List ℕ) (header : Header) (events : List Event) (here : Place) (behind : List ℕ) → Begins course bytes header events here → Begins course (bytes ++ behind) header events (more here behind)
   begins_more bytes header events here behind b = record {
+    form = b.form;
     start = more b.start behind;
-    head = header_more (start_of bytes) header b.start behind b.head;
-    lead = lead_more events b.start here behind b.lead;
+    head = header_more (start_of bytes) (b.form, header) b.start behind b.head;
+    lead = lead_more b.form events b.start here behind b.lead;
     admitted = b.admitted;
   }
 
   -- one more event
-  pub begins_next : (bytes : List ℕ) (header : Header) (events : List Event) (here after : Place) (e : Event) → Begins course bytes header events here → event_at here ≡ Ok (step.Event e, after) → course.refuses (state_after course header events) e ≡ None → Begins course bytes header (events ++ e ∷ []) after
+  abbrev pub begins_next : (bytes : List ℕ) (header : Header) (events : List Event) (here after : Place) (e : Event) (b : Begins course bytes header events here) → event_at b.form here ≡ Ok (step.Event e, after) → course.refuses (state_after course header events) e ≡ None → Begins course bytes header (events ++ e ∷ []) after
   begins_next bytes header events here after e b read admits = record {
+    form = b.form;
     start = b.start;
     head = b.head;
-    lead = lead_next events e b.start here after b.lead read;
+    lead = lead_next b.form events e b.start here after b.lead read;
     admitted = admitted-push course (course.first header) events e b.admitted admits;
   }
 
   -- the end
-  pub ends_played : (bytes : List ℕ) (header : Header) (events : List Event) (here after : Place) → Begins course bytes header events here → event_at here ≡ Ok (step.End, after) → IsPlayed course bytes header events
+  pub ends_played : (bytes : List ℕ) (header : Header) (events : List Event) (here after : Place) (b : Begins course bytes header events here) → event_at b.form here ≡ Ok (step.End, after) → IsPlayed course bytes header events
   ends_played bytes header events here after b read = record {
-    session = (b.start, b.head, subst (λ (es : List Event). Stand es Ended b.start) (append-nil events) (lead_stand events [] Ended b.start here b.lead (after, read)));
+    form = b.form;
+    session = (b.start, b.head, subst (λ (es : List Event). Stand b.form es Ended b.start) (append-nil events) (lead_stand b.form events [] Ended b.start here b.lead (after, read)));
     admitted = b.admitted;
   }
 

@@ -8,6 +8,7 @@ use Rattle.px_header.specs.declared.header.Header.{Header}
 use Rattle.px_session.specs.declared.event.Event.{Event}
 use Rattle.px_session.specs.declared.event.Step.{Step}
 use Rattle.px_session.specs.declared.event.Step.TheVariants as step
+use Rattle.px_session.specs.declared.form.Form.{Form}
 use Rattle.px_session.specs.Place.{Place, Refusal as Broken, start_of}
 use Rattle.px_session.specs.HeaderReading.{header_at}
 use Rattle.px_session.specs.EventReading.{event_at}
@@ -45,8 +46,8 @@ event_is d e same = cc
 pub none_no_some : (fault : WorldFault) → (let r : Option WorldFault = None in r) ≡ Some fault → ⊥
 none_no_some fault e = cc
 
-pub headers_are : (g h : Header) (a b : Place) → (let x : Header × Place = (g, a) in x) ≡ (h, b) → (g ≡ h) × (a ≡ b)
-headers_are g h a b same = (ap (λ (z : Header × Place). z.0) same, ap (λ (z : Header × Place). z.1) same)
+pub headers_are : (f k : Form) (g h : Header) (a b : Place) → (let x : (Form × Header) × Place = ((f, g), a) in x) ≡ ((k, h), b) → (f ≡ k) × (g ≡ h) × (a ≡ b)
+headers_are f k g h a b same = (ap (λ (z : (Form × Header) × Place). z.0.0) same, ap (λ (z : (Form × Header) × Place). z.0.1) same, ap (λ (z : (Form × Header) × Place). z.1) same)
 
 -- ---- played, and not refused
 
@@ -55,29 +56,30 @@ module _ {W : Type 0} (course : Course W) where
   admitted_there : (w : W) (before : List Event) (e : Event) (rest : List Event) → AreAdmitted course w (before ++ e ∷ rest) → course.refuses (state_by course w before) e ≡ None
   admitted_there w before e rest are = (admitted-split course w before (e ∷ rest) are).1.0
 
-  stands_no_refusal : (rest : List Event) (here : Place) (f : Broken) → Stand rest Ended here → event_at here ≡ Err f → ⊥
-  stands_no_refusal [] here f s e = not_both (event_at here) (step.End, s.0) f s.1 e
-  stands_no_refusal (d ∷ rest) here f s e = not_both (event_at here) (step.Event d, s.0) f s.1 e
+  stands_no_refusal : (form : Form) (rest : List Event) (here : Place) (f : Broken) → Stand form rest Ended here → event_at form here ≡ Err f → ⊥
+  stands_no_refusal form [] here f s e = not_both (event_at form here) (step.End, s.0) f s.1 e
+  stands_no_refusal form (d ∷ rest) here f s e = not_both (event_at form here) (step.Event d, s.0) f s.1 e
 
-  admits_next : (w : W) (before rest : List Event) (here after : Place) (e : Event) (fault : WorldFault) → AreAdmitted course w (before ++ rest) → Stand rest Ended here → event_at here ≡ Ok (step.Event e, after) → course.refuses (state_by course w before) e ≡ Some fault → ⊥
-  admits_next w before [] here after e fault are s read refuses = end_no_event e (ap (λ (z : Step × Place). z.0) (same_answer (event_at here) (step.End, s.0) (step.Event e, after) s.1 read))
-  admits_next w before (d ∷ rest) here after e fault are s read refuses =
-      let same = event_is d e (ap (λ (z : Step × Place). z.0) (same_answer (event_at here) (step.Event d, s.0) (step.Event e, after) s.1 read)) in
+  admits_next : (form : Form) (w : W) (before rest : List Event) (here after : Place) (e : Event) (fault : WorldFault) → AreAdmitted course w (before ++ rest) → Stand form rest Ended here → event_at form here ≡ Ok (step.Event e, after) → course.refuses (state_by course w before) e ≡ Some fault → ⊥
+  admits_next form w before [] here after e fault are s read refuses = end_no_event e (ap (λ (z : Step × Place). z.0) (same_answer (event_at form here) (step.End, s.0) (step.Event e, after) s.1 read))
+  admits_next form w before (d ∷ rest) here after e fault are s read refuses =
+      let same = event_is d e (ap (λ (z : Step × Place). z.0) (same_answer (event_at form here) (step.Event d, s.0) (step.Event e, after) s.1 read)) in
       none_no_some fault (sym (admitted_there w before d rest are) ∙ ap (course.refuses (state_by course w before)) same ∙ refuses)
 
-  goes_past : (header : Header) (before events : List Event) (start here : Place) (refusal : Refusal) → AreAdmitted course (course.first header) events → (rest : List Event) × (events ≡ before ++ rest) × Stand rest Ended here → StopsHere course header before here refusal → ⊥
-  goes_past header before events start here refusal are split (inl none) = stands_no_refusal split.0 here none.0 split.2 none.1
-  goes_past header before events start here refusal are split (inr barred) =
-      admits_next (course.first header) before split.0 here barred.1 barred.0 barred.2 (subst (AreAdmitted course (course.first header)) split.1 are) split.2 barred.3 barred.4
+  goes_past : (form : Form) (header : Header) (before events : List Event) (start here : Place) (refusal : Refusal) → AreAdmitted course (course.first header) events → (rest : List Event) × (events ≡ before ++ rest) × Stand form rest Ended here → StopsHere course form header before here refusal → ⊥
+  goes_past form header before events start here refusal are split (inl none) = stands_no_refusal form split.0 here none.0 split.2 none.1
+  goes_past form header before events start here refusal are split (inr barred) =
+      admits_next form (course.first header) before split.0 here barred.1 barred.0 barred.2 (subst (AreAdmitted course (course.first header)) split.1 are) split.2 barred.3 barred.4
 
   begins_none : (bytes : List ℕ) (header : Header) (events : List Event) (refusal : Refusal) → IsPlayed course bytes header events → NoneBegins bytes refusal → ⊥
-  begins_none bytes header events refusal p none = not_both (header_at (start_of bytes)) (header, p.session.0) none.0 p.session.1 none.1
+  begins_none bytes header events refusal p none = not_both (header_at (start_of bytes)) ((p.form, header), p.session.0) none.0 p.session.1 none.1
 
-  begins_same : (bytes : List ℕ) (header : Header) (events : List Event) (h : Header) (before : List Event) (here : Place) (refusal : Refusal) → IsPlayed course bytes header events → Begins course bytes h before here → StopsHere course h before here refusal → ⊥
+  begins_same : (bytes : List ℕ) (header : Header) (events : List Event) (h : Header) (before : List Event) (here : Place) (refusal : Refusal) → IsPlayed course bytes header events → (b : Begins course bytes h before here) → StopsHere course b.form h before here refusal → ⊥
   begins_same bytes header events h before here refusal p b stops =
-      let same = headers_are header h p.session.0 b.start (same_answer (header_at (start_of bytes)) (header, p.session.0) (h, b.start) p.session.1 b.head) in
-      let split = lead_one before events Ended b.start here b.lead (subst (Stand events Ended) same.1 p.session.2) in
-      goes_past h before events b.start here refusal (subst (λ (g : Header). AreAdmitted course (course.first g) events) same.0 p.admitted) split stops
+      let same = headers_are p.form b.form header h p.session.0 b.start (same_answer (header_at (start_of bytes)) ((p.form, header), p.session.0) ((b.form, h), b.start) p.session.1 b.head) in
+      let stand : Stand b.form events Ended b.start = subst (Stand b.form events Ended) same.2 (subst (λ (f : Form). Stand f events Ended p.session.0) same.0 p.session.2) in
+      let split = lead_one b.form before events Ended b.start here b.lead stand in
+      goes_past b.form h before events b.start here refusal (subst (λ (g : Header). AreAdmitted course (course.first g) events) same.1 p.admitted) split stops
 
   pub not_refused : (bytes : List ℕ) (header : Header) (events : List Event) (refusal : Refusal) (before : Before) → IsPlayed course bytes header events → IsRefused course bytes refusal before → ⊥
   not_refused bytes header events refusal before p (inl none) = begins_none bytes header events refusal p none.0
@@ -86,7 +88,7 @@ module _ {W : Type 0} (course : Course W) where
 -- ---- one header
 
 one_header : (bytes : List ℕ) (g h : Header) → HasHeader bytes g → HasHeader bytes h → g ≡ h
-one_header bytes g h a b = (headers_are g h a.0 b.0 (same_answer (header_at (start_of bytes)) (g, a.0) (h, b.0) a.1 b.1)).0
+one_header bytes g h a b = (headers_are a.0 b.0 g h a.1 b.1 (same_answer (header_at (start_of bytes)) ((a.0, g), a.1) ((b.0, h), b.1) a.2 b.2)).1
 
 none_no_look : {L : Type 0} (l : L) → (let o : Option L = None in o) ≡ Some l → ⊥
 none_no_look l e = cc
@@ -112,13 +114,13 @@ module _ {W A L : Type 0} (mode : Mode W A L) where
   named_so asked bytes header l has looks u = none_no_look l (sym u.2 ∙ ap (λ (h : Header). mode.looks asked h) (one_header bytes u.0 header u.1 has) ∙ looks)
 
   played_named : (asked : A) (bytes : List ℕ) (header : Header) (events : List Event) (l : L) → IsPlayed mode.course bytes header events → mode.looks asked header ≡ Some l → IsUnnamed mode asked bytes → ⊥
-  played_named asked bytes header events l p looks u = named_so asked bytes header l (p.session.0, p.session.1) looks u
+  played_named asked bytes header events l p looks u = named_so asked bytes header l (p.form, p.session.0, p.session.1) looks u
 
   refused_named : (asked : A) (bytes : List ℕ) (refusal : Refusal) (before : Before) (given : List ℕ) → IsRefused mode.course bytes refusal before → GivenBefore mode asked before given → IsUnnamed mode asked bytes → ⊥
-  refused_named asked bytes refusal before given (inl none) gives u = not_both (header_at (start_of bytes)) (u.0, u.1.0) none.0.0 u.1.1 none.0.1
+  refused_named asked bytes refusal before given (inl none) gives u = not_both (header_at (start_of bytes)) ((u.1.0, u.0), u.1.1) none.0.0 u.1.2 none.0.1
   refused_named asked bytes refusal before given (inr s) gives u =
       let g = subst (λ (b : Before). GivenBefore mode asked b given) s.5 gives in
-      named_so asked bytes s.0 g.0 (s.3.start, s.3.head) g.1 u
+      named_so asked bytes s.0 g.0 (s.3.form, s.3.start, s.3.head) g.1 u
 
   abbrev OkFor : A → Status → List ℕ → Type 0
   OkFor asked answered bytes = answered ≡ status.Ok → (header : Header) × (events : List Event) × (l : L) × IsPlayed mode.course bytes header events × (mode.looks asked header ≡ Some l)

@@ -6,6 +6,7 @@ use Rattle.px_session.specs.declared.event.Event.{Event}
 use Rattle.px_session.specs.declared.event.Step.{Step}
 use Rattle.px_session.specs.declared.event.Step.TheVariants as step
 use Rattle.px_session.specs.declared.fault.Cause.TheVariants as cause
+use Rattle.px_session.specs.declared.form.Form.{Form}
 use Rattle.px_session.specs.Place.{Place, start_of}
 use Rattle.px_session.specs.HeaderReading.{header_at}
 use Rattle.px_session.specs.EventReading.{event_at}
@@ -20,9 +21,9 @@ use Rattle.px_app.proofs.CompleteLaws.{not_both, same_answer, event_is, none_no_
 use Rattle.px_app.proofs.RefuseLaws.{refused_more}
 
 -- one event is read
-same_event : (place : Place) (d e : Event) (a b : Place) → event_at place ≡ Ok (step.Event d, a) → event_at place ≡ Ok (step.Event e, b) → (d ≡ e) × (a ≡ b)
-same_event place d e a b p q =
-    let same = same_answer (event_at place) (step.Event d, a) (step.Event e, b) p q in
+same_event : (form : Form) (place : Place) (d e : Event) (a b : Place) → event_at form place ≡ Ok (step.Event d, a) → event_at form place ≡ Ok (step.Event e, b) → (d ≡ e) × (a ≡ b)
+same_event form place d e a b p q =
+    let same = same_answer (event_at form place) (step.Event d, a) (step.Event e, b) p q in
     (event_is d e (ap (λ (z : Step × Place). z.0) same), ap (λ (z : Step × Place). z.1) same)
 
 none_once : (bytes : List ℕ) (r s : Refusal) → NoneBegins bytes r → NoneBegins bytes s → r ≡ s
@@ -36,47 +37,49 @@ behind_are g h xs ys same events = cc
 
 module _ {W : Type 0} (course : Course W) where
   -- where events stop none that is admitted is read
-  stops_no_more : (w : W) (e : Event) (here after : Place) (refusal : Refusal) → event_at here ≡ Ok (step.Event e, after) → course.refuses w e ≡ None → StopsIn course w here refusal → ⊥
-  stops_no_more w e here after refusal read admitted (inl none) = not_both (event_at here) (step.Event e, after) none.0 read none.1
-  stops_no_more w e here after refusal read admitted (inr barred) =
-      none_no_some barred.2 (sym admitted ∙ ap (course.refuses w) (same_event here e barred.0 after barred.1 read barred.3).0 ∙ barred.4)
+  stops_no_more : (form : Form) (w : W) (e : Event) (here after : Place) (refusal : Refusal) → event_at form here ≡ Ok (step.Event e, after) → course.refuses w e ≡ None → StopsIn course form w here refusal → ⊥
+  stops_no_more form w e here after refusal read admitted (inl none) = not_both (event_at form here) (step.Event e, after) none.0 read none.1
+  stops_no_more form w e here after refusal read admitted (inr barred) =
+      none_no_some barred.2 (sym admitted ∙ ap (course.refuses w) (same_event form here e barred.0 after barred.1 read barred.3).0 ∙ barred.4)
 
-  stops_once : (w : W) (here : Place) (r s : Refusal) → StopsIn course w here r → StopsIn course w here s → r ≡ s
-  stops_once w here r s (inl a) (inl b) = a.2 ∙ ap of_bytes (err_is a.0 b.0 (sym a.1 ∙ b.1)) ∙ sym b.2
-  stops_once w here r s (inl a) (inr b) = absurd (not_both (event_at here) (step.Event b.0, b.1) a.0 b.3 a.1)
-  stops_once w here r s (inr a) (inl b) = absurd (not_both (event_at here) (step.Event a.0, a.1) b.0 a.3 b.1)
-  stops_once w here r s (inr a) (inr b) =
-      let e = (same_event here a.0 b.0 a.1 b.1 a.3 b.3).0 in
+  stops_once : (form : Form) (w : W) (here : Place) (r s : Refusal) → StopsIn course form w here r → StopsIn course form w here s → r ≡ s
+  stops_once form w here r s (inl a) (inl b) = a.2 ∙ ap of_bytes (err_is a.0 b.0 (sym a.1 ∙ b.1)) ∙ sym b.2
+  stops_once form w here r s (inl a) (inr b) = absurd (not_both (event_at form here) (step.Event b.0, b.1) a.0 b.3 a.1)
+  stops_once form w here r s (inr a) (inl b) = absurd (not_both (event_at form here) (step.Event a.0, a.1) b.0 a.3 b.1)
+  stops_once form w here r s (inr a) (inr b) =
+      let e = (same_event form here a.0 b.0 a.1 b.1 a.3 b.3).0 in
       let fault = same_Some a.2 b.2 (sym a.4 ∙ ap (course.refuses w) e ∙ b.4) in
       a.5 ∙ ap (λ (d : Event). of_event here.at d a.2) e ∙ ap (of_event here.at b.0) fault ∙ sym b.5
 
   -- the same events lead to where they stop
-  leads_once : (w : W) (xs ys : List Event) (start a b : Place) (r s : Refusal) → Lead xs start a → Lead ys start b → AreAdmitted course w xs → AreAdmitted course w ys → StopsIn course (state_by course w xs) a r → StopsIn course (state_by course w ys) b s → (xs ≡ ys) × (a ≡ b)
-  leads_once w [] [] start a b r s la lb aa ab sa sb = (refl, la ∙ sym lb)
-  leads_once w [] (y ∷ ys) start a b r s la lb aa ab sa sb = absurd (stops_no_more w y start lb.0 r lb.1 ab.0 (subst (λ (z : Place). StopsIn course w z r) la sa))
-  leads_once w (x ∷ xs) [] start a b r s la lb aa ab sa sb = absurd (stops_no_more w x start la.0 s la.1 aa.0 (subst (λ (z : Place). StopsIn course w z s) lb sb))
-  leads_once w (x ∷ xs) (y ∷ ys) start a b r s la lb aa ab sa sb =
-      let same = same_event start x y la.0 lb.0 la.1 lb.1 in
-      let rest = leads_once (course.after w x) xs ys la.0 a b r s la.2
-      (subst (λ (z : Place). Lead ys z b) (sym same.1) lb.2) aa.1
+  leads_once : (form : Form) (w : W) (xs ys : List Event) (start a b : Place) (r s : Refusal) → Lead form xs start a → Lead form ys start b → AreAdmitted course w xs → AreAdmitted course w ys → StopsIn course form (state_by course w xs) a r → StopsIn course form (state_by course w ys) b s → (xs ≡ ys) × (a ≡ b)
+  leads_once form w [] [] start a b r s la lb aa ab sa sb = (refl, la ∙ sym lb)
+  leads_once form w [] (y ∷ ys) start a b r s la lb aa ab sa sb = absurd (stops_no_more form w y start lb.0 r lb.1 ab.0 (subst (λ (z : Place). StopsIn course form w z r) la sa))
+  leads_once form w (x ∷ xs) [] start a b r s la lb aa ab sa sb = absurd (stops_no_more form w x start la.0 s la.1 aa.0 (subst (λ (z : Place). StopsIn course form w z s) lb sb))
+  leads_once form w (x ∷ xs) (y ∷ ys) start a b r s la lb aa ab sa sb =
+      let same = same_event form start x y la.0 lb.0 la.1 lb.1 in
+      let rest = leads_once form (course.after w x) xs ys la.0 a b r s la.2
+      (subst (λ (z : Place). Lead form ys z b) (sym same.1) lb.2) aa.1
       (subst (λ (e : Event). AreAdmitted course (course.after w e) ys) (sym same.0) ab.1) sa
-      (subst (λ (e : Event). StopsIn course (state_by course (course.after w e) ys) b s) (sym same.0) sb) in
+      (subst (λ (e : Event). StopsIn course form (state_by course (course.after w e) ys) b s) (sym same.0) sb) in
       (ap (λ (e : Event). e ∷ xs) same.0 ∙ ap (λ (es : List Event). y ∷ es) rest.0, rest.1)
 
   begins_no_none : (bytes : List ℕ) (header : Header) (events : List Event) (here : Place) (refusal : Refusal) → Begins course bytes header events here → NoneBegins bytes refusal → ⊥
-  begins_no_none bytes header events here refusal b none = not_both (header_at (start_of bytes)) (header, b.start) none.0 b.head none.1
+  begins_no_none bytes header events here refusal b none = not_both (header_at (start_of bytes)) ((b.form, header), b.start) none.0 b.head none.1
 
-  begun_once : (bytes : List ℕ) (g h : Header) (xs ys : List Event) (a b : Place) (r s : Refusal) → Begins course bytes g xs a → StopsHere course g xs a r → Begins course bytes h ys b → StopsHere course h ys b s
+  begun_once : (bytes : List ℕ) (g h : Header) (xs ys : List Event) (a b : Place) (r s : Refusal) → (p : Begins course bytes g xs a) → StopsHere course p.form g xs a r → (q : Begins course bytes h ys b) → StopsHere course q.form h ys b s
       → SameRefusal r s (Some (g, xs)) (Some (h, ys))
   begun_once bytes g h xs ys a b r s p sa q sb =
-      let same = headers_are g h p.start q.start (same_answer (header_at (start_of bytes)) (g, p.start) (h, q.start) p.head q.head) in
-      let stops : StopsIn course (state_by course (course.first g) ys) b s = subst (λ (k : Header). StopsIn course (state_by course (course.first k) ys) b s) (sym same.0) sb in
-      let rest = leads_once (course.first g) xs ys p.start a b r s p.lead
-      (subst (λ (z : Place). Lead ys z b) (sym same.1) q.lead) p.admitted
-      (subst (λ (k : Header). AreAdmitted course (course.first k) ys) (sym same.0) q.admitted) sa stops in (
-        stops_once (state_by course (course.first g) xs) a r s sa
-            (subst (λ (es : List Event). StopsIn course (state_by course (course.first g) es) a s) (sym rest.0) (subst (λ (z : Place). StopsIn course (state_by course (course.first g) ys) z s) (sym rest.1) stops)),
-        behind_are g h xs ys same.0 rest.0,
+      let form = p.form in
+      let same = headers_are form q.form g h p.start q.start (same_answer (header_at (start_of bytes)) ((form, g), p.start) ((q.form, h), q.start) p.head q.head) in
+      let stops : StopsIn course form (state_by course (course.first g) ys) b s =
+      subst (λ (f : Form). StopsIn course f (state_by course (course.first g) ys) b s) (sym same.0) (subst (λ (k : Header). StopsIn course q.form (state_by course (course.first k) ys) b s) (sym same.1) sb) in
+      let lead : Lead form ys p.start b = subst (λ (z : Place). Lead form ys z b) (sym same.2) (subst (λ (f : Form). Lead f ys q.start b) (sym same.0) q.lead) in
+      let rest = leads_once form (course.first g) xs ys p.start a b r s p.lead lead p.admitted
+      (subst (λ (k : Header). AreAdmitted course (course.first k) ys) (sym same.1) q.admitted) sa stops in (
+        stops_once form (state_by course (course.first g) xs) a r s sa
+            (subst (λ (es : List Event). StopsIn course form (state_by course (course.first g) es) a s) (sym rest.0) (subst (λ (z : Place). StopsIn course form (state_by course (course.first g) ys) z s) (sym rest.1) stops)),
+        behind_are g h xs ys same.1 rest.0,
       )
 
   pub one_refusal : (bytes : List ℕ) (r s : Refusal) (before others : Before) → IsRefused course bytes r before → IsRefused course bytes s others → SameRefusal r s before others

@@ -15,6 +15,7 @@ pub mod ReportLaws
 pub mod CompleteLaws
 pub mod PlayedLaws
 pub mod ReplayLaws
+pub mod ConvertLaws
 pub mod RunLaws
 pub mod EitherLaws
 pub mod FinalLaws

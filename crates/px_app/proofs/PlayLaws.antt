@@ -1,5 +1,5 @@
 -- What each step of playing an input leaves.
-use Rattle.std.proofs.Common.{◌≡◌, inl, inr, ℕ, Bool, false, List, [], ◌∷◌, ◌++◌, Option, None, Some, Result, Ok, Err, OnOk, refl, sym, ap, subst, ◌∙◌}
+use Rattle.std.proofs.Common.{◌≡◌, inl, inr, ℕ, List, [], ◌∷◌, ◌++◌, Option, None, Some, Result, Ok, Err, OnOk, refl, sym, ap, subst, ◌∙◌}
 use Rattle.px_ends.specs.Visible.{before_taking, after_adding, IsAtEnd}
 use Rattle.px_types.specs.Faults.{Rose}
 use Rattle.px_ends.specs.Whole.{AddsFront}
@@ -12,13 +12,13 @@ use Rattle.px_session.specs.declared.fault.Cause.{Cause}
 use Rattle.px_session.specs.declared.fault.Cause.TheVariants as cause
 use Rattle.px_session.specs.declared.fault.ReadError.{ReadError}
 use Rattle.px_session.specs.declared.fault.ReadError.TheVariants as error
-use Rattle.px_session.specs.Place.{Place, Refusal as Broken, start_of, done}
+use Rattle.px_session.specs.declared.form.Form.{Form}
+use Rattle.px_session.specs.Place.{Place, Refusal as Broken, start_of}
 use Rattle.px_session.specs.HeaderReading.{header_at}
 use Rattle.px_session.specs.EventReading.{event_at}
-use Rattle.px_session.specs.Session.{first_at, step_at}
+use Rattle.px_session.specs.Session.{step_at}
 use Rattle.px_session.specs.Reader.{Reader, place_with, EndsWith, Takes}
-use Rattle.px_session.proofs.Steps.{then_err}
-use Rattle.px_session.proofs.Steady.{answer, refused}
+use Rattle.px_session.proofs.StepLaws.{first_read, first_refused, later_read, later_refused}
 use Rattle.px_world.specs.declared.fault.WorldFault.{WorldFault}
 use Rattle.px_app.specs.declared.playing.Playing.{Playing}
 use Rattle.px_app.specs.declared.refusal.Refusal.{Refusal}
@@ -35,7 +35,6 @@ use Rattle.px_app.specs.Step.{unread, IsOpened, Unopened, Closes, EventStepped, 
 use Rattle.px_app.proofs.BeginLaws.{begins_more, begins_next, ends_played}
 use Rattle.px_app.proofs.FrontLaws.{second_cut, whole_front, no_front}
 use Rattle.px_app.proofs.ModeLaws.{parts-push, parts-none}
-use Rattle.px_app.proofs.ReadLaws.{header_first}
 use Rattle.px_app.proofs.RefuseLaws.{IsEarly, was_refused, was_unnamed}
 
 -- ---- early ends
@@ -55,27 +54,16 @@ event_not_early at e fault refusal is early = other fault _ (sym (ap (λ (r : Re
 -- ---- the header
 
 abbrev IsNew : Reader → Type 0
-IsNew reader = reader ≡ record { at = 0; ahead = []; begun = false }
-
-first_err : (place : Place) (f : Broken) → first_at place ≡ Err f → header_at place ≡ Err f
-unfolding first_at
-first_err place f e =
-    elim (then_err header_at (λ header. done (step.Header header)) place f e) [
-      | inl h ↦ h
-      | inr s ↦ absurd (never (step.Header s.0.0, s.0.1) f s.2)
-    ]
-  where
-    never : (x : Step × Place) (f : Broken) → answer x ≡ refused f → ⊥
-    never x f e = cc
+IsNew reader = reader ≡ record { at = 0; ahead = []; begun = None }
 
 abbrev new_reader : Reader
-new_reader = record { at = 0; ahead = []; begun = false }
+new_reader = record { at = 0; ahead = []; begun = None }
 
 unopened_first : (new : Reader) (e : ReadError) (before after : Ends) → Takes (Err e) new_reader new before.left after.left → after.held ≡ before.held → Unopened (unread e) before after
 unopened_first new (error.Refused at c) before after t same_held = record {
   bytes = t.taken;
   departed = t.departed;
-  none = (record { at = at; cause = c }, first_err (start_of t.taken) (record { at = at; cause = c }) t.stepped, refl);
+  none = (record { at = at; cause = c }, first_refused (start_of t.taken) (record { at = at; cause = c }) t.stepped, refl);
   at_end = ended_early at c after.left t.ended;
   same = same_held;
 }
@@ -89,15 +77,20 @@ new_unopened old new e before after is t same_held = unopened_first new e before
 abbrev TookHeader : Reader → Reader → Header → Option (List ℕ) → Option (List ℕ) → Type 0
 TookHeader old new h before after = Takes (Ok (step.Header h)) old new before after
 
+same_head : (g h : Header) → step.Header g ≡ step.Header h → g ≡ h
+same_head g h e = cc
+
 -- one was
 pub new_opened : (old new : Reader) (h : Header) (before after : Ends) → IsNew old → TookHeader old new h before.left after.left → after.held ≡ before.held → IsOpened new h before after
 new_opened old new h before after is took same_held =
     let t : TookHeader new_reader new h before.left after.left = subst (λ (r : Reader). TookHeader r new h before.left after.left) is took in
+    let first = first_read (start_of t.taken) ((t.stepped.0, step.Header h), place_with new new.ahead) t.stepped.1 in
     record {
       bytes = t.taken;
+      form = t.stepped.0;
       departed = t.departed;
-      head = header_first (start_of t.taken) h (place_with new new.ahead) t.stepped.0;
-      begun = t.stepped.1;
+      head = subst (λ (g : Header). header_at (start_of t.taken) ≡ Ok ((t.stepped.0, g), place_with new new.ahead)) (sym (same_head h first.0 first.2)) first.1;
+      begun = t.stepped.2;
       same = same_held;
     }
 
@@ -119,14 +112,14 @@ module _ {W A L : Type 0} (mode : Mode W A L) (asked : A) where
 
   -- and with one that hasn't what is asked for
   pub opened_unnamed : (reader : Reader) (header : Header) (before after : Ends) → IsOpened reader header before after → mode.looks asked header ≡ None → WasUnnamed mode asked before after
-  opened_unnamed reader header before after o unnamed = was_unnamed mode asked o.bytes header before after o.departed (place_with reader reader.ahead, o.head) unnamed o.same
+  opened_unnamed reader header before after o unnamed = was_unnamed mode asked o.bytes header before after o.departed (o.form, place_with reader reader.ahead, o.head) unnamed o.same
 
   pub opened_nothing : (reader : Reader) (header : Header) (before after : Ends) → IsOpened reader header before after → PlayedFront mode asked before after
   opened_nothing reader header before after o = nothing_played o.bytes before after o.departed o.same
 
   -- what begins with a header, and no event
-  opened_begins : (reader : Reader) (header : Header) (before after : Ends) (o : IsOpened reader header before after) → Begins mode.course o.bytes header [] (place_with reader reader.ahead)
-  opened_begins reader header before after o = record { start = place_with reader reader.ahead; head = o.head; lead = refl; admitted = tt }
+  abbrev opened_begins : (reader : Reader) (header : Header) (before after : Ends) (o : IsOpened reader header before after) → Begins mode.course o.bytes header [] (place_with reader reader.ahead)
+  opened_begins reader header before after o = record { form = o.form; start = place_with reader reader.ahead; head = o.head; lead = refl; admitted = tt }
 
   -- a front of what is shown of the header was gathered
   pub opened_cut : (reader : Reader) (header : Header) (look : L) (before now after : Ends) → IsOpened reader header before now → now.left ≡ after.left → mode.looks asked header ≡ Some look → AddsFront (mode.opens look header) now.held after.held → PlayedFront mode asked before after
@@ -167,7 +160,7 @@ module _ {T W A L : Type 0} (mode : Mode W A L) (stands : T → L → Header →
   both_departed : (taken : List ℕ) → now.left ≡ before_taking taken after.left → first.left ≡ before_taking (all_of taken) after.left
   both_departed taken departed = r.departed ∙ ap (before_taking r.bytes) departed ∙ taking_both r.bytes taken after.left
 
-  begins_so : (taken : List ℕ) → Begins mode.course (all_of taken) r.header r.events (here_of taken)
+  abbrev begins_so : (taken : List ℕ) → Begins mode.course (all_of taken) r.header r.events (here_of taken)
   begins_so taken = begins_more mode.course r.bytes r.header r.events (place_with playing.reader playing.reader.ahead) taken r.begins
 
   abbrev w : W
@@ -186,13 +179,23 @@ module _ {T W A L : Type 0} (mode : Mode W A L) (stands : T → L → Header →
     gained = whole_front parts first.held after.held (same_held ∙ r.gained);
   }
 
-  as_event : (taken : List ℕ) (x : Result (Step × Place) Broken) → step_at playing.reader.begun (here_of taken) ≡ x → event_at (here_of taken) ≡ x
-  as_event taken x e = subst (λ (b : Bool). step_at b (here_of taken) ≡ x) r.begun e
+  abbrev form : Form
+  form = r.begins.form
+
+  -- what was read is an event of the form, or the end, or is refused
+  as_refused : (taken : List ℕ) (f : Broken) → step_at playing.reader.begun (here_of taken) ≡ Err f → event_at form (here_of taken) ≡ Err f
+  as_refused taken f e = later_refused form (here_of taken) f (subst (λ (b : Option Form). step_at b (here_of taken) ≡ Err f) r.begun e)
+
+  abbrev Reads : List ℕ → Form → Step → Place → Type 0
+  Reads taken f s here = step_at playing.reader.begun (here_of taken) ≡ Ok ((f, s), here)
+
+  later : (taken : List ℕ) (f : Form) (s : Step) (here : Place) → Reads taken f s here → (event_at form (here_of taken) ≡ Ok (s, here)) × (f ≡ form)
+  later taken f s here e = later_read form (here_of taken) ((f, s), here) (subst (λ (b : Option Form). step_at b (here_of taken) ≡ Ok ((f, s), here)) r.begun e)
 
   pub stop_read : (e : ReadError) → Takes (Err e) playing.reader new now.left after.left → after.held ≡ now.held → InputPlayed mode asked (unread e) first after
   stop_read (error.Refused at c) t same_held =
       was_refused mode asked (all_of t.taken) (of_bytes (record { at = at; cause = c })) (Some (r.header, r.events)) parts first after (both_departed t.taken t.departed)
-      (inr (r.header, r.events, here_of t.taken, begins_so t.taken, inl (record { at = at; cause = c }, as_event t.taken (Err (record { at = at; cause = c })) t.stepped, refl), refl))
+      (inr (r.header, r.events, here_of t.taken, begins_so t.taken, inl (record { at = at; cause = c }, as_refused t.taken (record { at = at; cause = c }) t.stepped, refl), refl))
       (r.look, r.looks, refl)
       (ended_early at c after.left t.ended) (same_held ∙ r.gained)
   stop_read error.Failed t same_held = unplayed_front t.taken t.departed same_held
@@ -200,7 +203,7 @@ module _ {T W A L : Type 0} (mode : Mode W A L) (stands : T → L → Header →
 
   module _ (t : Takes (Ok step.End) playing.reader new now.left after.left) where
     ended_played : IsPlayed mode.course (all_of t.taken) r.header r.events
-    ended_played = ends_played mode.course (all_of t.taken) r.header r.events (here_of t.taken) (place_with new new.ahead) (begins_so t.taken) (as_event t.taken (Ok (step.End, place_with new new.ahead)) t.stepped.0)
+    ended_played = ends_played mode.course (all_of t.taken) r.header r.events (here_of t.taken) (place_with new new.ahead) (begins_so t.taken) (later t.taken t.stepped.0 step.End (place_with new new.ahead) t.stepped.1).0
 
     pub stop_end : (ended : Ending) → Closes ended (mode.closes r.look r.header r.events) now.held after.held → InputPlayed mode asked ended first after
     stop_end ending.Done closes = record {
@@ -230,13 +233,16 @@ module _ {T W A L : Type 0} (mode : Mode W A L) (stands : T → L → Header →
     stop_end ending.NoSuchSink closes = absurd closes
 
   module _ (e : Event) (t : Takes (Ok (step.Event e)) playing.reader new now.left after.left) where
-    read : event_at (here_of t.taken) ≡ Ok (step.Event e, place_with new new.ahead)
-    read = as_event t.taken (Ok (step.Event e, place_with new new.ahead)) t.stepped.0
+    read : event_at form (here_of t.taken) ≡ Ok (step.Event e, place_with new new.ahead)
+    read = (later t.taken t.stepped.0 (step.Event e) (place_with new new.ahead) t.stepped.1).0
+
+    same_form : new.begun ≡ Some form
+    same_form = t.stepped.2 ∙ ap Some (later t.taken t.stepped.0 (step.Event e) (place_with new new.ahead) t.stepped.1).1
 
     abbrev more : List Event
     more = r.events ++ e ∷ []
 
-    next : mode.course.refuses w e ≡ None → Begins mode.course (all_of t.taken) r.header more (place_with new new.ahead)
+    abbrev next : mode.course.refuses w e ≡ None → Begins mode.course (all_of t.taken) r.header more (place_with new new.ahead)
     next admitted = begins_next mode.course (all_of t.taken) r.header r.events (here_of t.taken) (place_with new new.ahead) e (begins_so t.taken) read admitted
 
     cut_front : EventCut mode r.look w e now.held after.held → PlayedFront mode asked first after
@@ -258,7 +264,7 @@ module _ {T W A L : Type 0} (mode : Mode W A L) (stands : T → L → Header →
         look = r.look;
         departed = both_departed t.taken t.departed;
         begins = rw same_reader (next played.admitted);
-        begun = rw same_reader (t.stepped.1);
+        begun = rw same_reader same_form;
         looks = r.looks;
         stage = stage;
         gained = played.gained

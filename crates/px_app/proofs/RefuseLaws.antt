@@ -4,6 +4,7 @@ use Rattle.px_ends.specs.Visible.{before_taking, after_adding, IsAtEnd, WhereVis
 use Rattle.px_header.specs.declared.header.Header.{Header}
 use Rattle.px_session.specs.declared.event.Event.{Event}
 use Rattle.px_session.specs.declared.fault.Cause.TheVariants as cause
+use Rattle.px_session.specs.declared.form.Form.{Form}
 use Rattle.px_session.specs.Place.{Place, Refusal as Broken, start_of}
 use Rattle.px_session.specs.HeaderReading.{header_at}
 use Rattle.px_session.specs.EventReading.{event_at}
@@ -28,13 +29,13 @@ none_more : (bytes : List ℕ) (refusal : Refusal) (behind : List ℕ) → NoneB
 none_more bytes refusal behind none ends = (none.0, broken_more any header_at header_steady (start_of bytes) none.0 behind none.1 (λ early. ends (early_is refusal none.0 none.2 early)), none.2)
 
 module _ {W : Type 0} (course : Course W) where
-  stops_more : (header : Header) (before : List Event) (here : Place) (refusal : Refusal) (behind : List ℕ) → StopsHere course header before here refusal → (IsEarly refusal → behind ≡ []) → StopsHere course header before (more here behind) refusal
-  stops_more header before here refusal behind (inl none) ends = inl (none.0, broken_more Closed event_at event_steady here none.0 behind none.1 (λ early. ends (early_is refusal none.0 none.2 early)), none.2)
-  stops_more header before here refusal behind (inr barred) ends = inr (barred.0, more barred.1 behind, barred.2, event_more here barred.0 barred.1 behind barred.3, barred.4, barred.5)
+  stops_more : (form : Form) (header : Header) (before : List Event) (here : Place) (refusal : Refusal) (behind : List ℕ) → StopsHere course form header before here refusal → (IsEarly refusal → behind ≡ []) → StopsHere course form header before (more here behind) refusal
+  stops_more form header before here refusal behind (inl none) ends = inl (none.0, broken_more Closed (event_at form) (event_steady form) here none.0 behind none.1 (λ early. ends (early_is refusal none.0 none.2 early)), none.2)
+  stops_more form header before here refusal behind (inr barred) ends = inr (barred.0, more barred.1 behind, barred.2, event_more form here barred.0 barred.1 behind barred.3, barred.4, barred.5)
 
   pub refused_more : (bytes : List ℕ) (refusal : Refusal) (before : Before) (behind : List ℕ) → IsRefused course bytes refusal before → (IsEarly refusal → behind ≡ []) → IsRefused course (bytes ++ behind) refusal before
   refused_more bytes refusal before behind (inl none) ends = inl (none_more bytes refusal behind none.0 ends, none.1)
-  refused_more bytes refusal before behind (inr s) ends = inr (s.0, s.1, more s.2 behind, begins_more course bytes s.0 s.1 s.2 behind s.3, stops_more s.0 s.1 s.2 refusal behind s.4 ends, s.5)
+  refused_more bytes refusal before behind (inr s) ends = inr (s.0, s.1, more s.2 behind, begins_more course bytes s.0 s.1 s.2 behind s.3, stops_more s.3.form s.0 s.1 s.2 refusal behind s.4 ends, s.5)
 
   -- all that the source had is refused, where it tells
   refused_visible : (bytes : List ℕ) (refusal : Refusal) (events : Before) (before after : Option (List ℕ)) → before ≡ before_taking bytes after → IsRefused course bytes refusal events → (IsEarly refusal → IsAtEnd after) → WhereVisible before (λ all. IsRefused course all refusal events)
@@ -44,7 +45,7 @@ module _ {W : Type 0} (course : Course W) where
 -- ---- a header without what is asked for
 
 has_more : (bytes : List ℕ) (header : Header) (behind : List ℕ) → HasHeader bytes header → HasHeader (bytes ++ behind) header
-has_more bytes header behind has = (more has.0 behind, header_more (start_of bytes) header has.0 behind has.1)
+has_more bytes header behind has = (has.0, more has.1 behind, header_more (start_of bytes) (has.0, header) has.1 behind has.2)
 
 has_visible : (bytes : List ℕ) (header : Header) (before after : Option (List ℕ)) → before ≡ before_taking bytes after → HasHeader bytes header → WhereVisible before (λ all. HasHeader all header)
 has_visible bytes header before None same has = subst (λ (b : Option (List ℕ)). WhereVisible b (λ all. HasHeader all header)) (sym same) tt

@@ -3,10 +3,10 @@ use Rattle.std.proofs.Common.{◌≡◌, ℕ, ◌+◌, Bool, true, false, cond, 
 use Rattle.std.specs.List.{concat, count_by}
 use Rattle.std.proofs.lemmas.List.Sums.{sum_by-append}
 use Rattle.px_session.specs.declared.event.Event.{Event}
-use Rattle.px_session.specs.declared.event.Event.TheVariants.{Connect, Bytes, Close, Cut, Turn, Collect}
+use Rattle.px_session.specs.declared.event.Event.TheVariants.{Connect, Bytes, Close, Cut, Turn, Collect, Stop}
 use Rattle.px_state.specs.declared.effect.Effect.{Effect}
 use Rattle.px_world.specs.World.{World}
-use Rattle.px_world.specs.Event.{world_after, effects_after, frames_played}
+use Rattle.px_world.specs.Event.{world_after, effects_after, frames_played, stopped_by}
 use Rattle.px_world.specs.History.{played_on}
 use Rattle.px_app.specs.declared.view.Lens.{Lens}
 use Rattle.px_app.specs.declared.view.Lens.TheVariants as lens
@@ -55,10 +55,11 @@ raw-is w (Close conn) k = refl
 raw-is w (Cut conn) k = refl
 raw-is w (Turn sink frames n) k = sym (concat-if (nat_eq sink k) (frames_played w (Turn sink frames n)))
 raw-is w (Collect sink n) k = refl
+raw-is w (Stop sink) k = refl
 
 -- what is shown of an event, from what it did
-pub shown_is : (l : Lens) (w : World) (e : Event) (effects : List Effect) (frames : ℕ) (played : List ℕ) → effects ≡ effects_after w e → frames ≡ length (frames_played w e) → played ≡ concat (frames_played w e)
-    → shown_part l (turn_sink e) effects frames played ≡ part_of l w e
-shown_is lens.Records w e effects frames played same count bytes = outcome_is w e effects frames played same count bytes
-shown_is (lens.Raw k) w e effects frames played same count bytes = ap (raw_part (turn_sink e) k) bytes ∙ raw-is w e k
-shown_is lens.Summary w e effects frames played same count bytes = refl
+pub shown_is : (l : Lens) (w : World) (e : Event) (effects : List Effect) (stopped : Option ℕ) (frames : ℕ) (played : List ℕ) → effects ≡ effects_after w e → stopped ≡ stopped_by w e → frames ≡ length (frames_played w e) → played ≡ concat (frames_played w e)
+    → shown_part l (turn_sink e) effects stopped frames played ≡ part_of l w e
+shown_is lens.Records w e effects stopped frames played same stop count bytes = outcome_is w e effects stopped frames played same stop count bytes
+shown_is (lens.Raw k) w e effects stopped frames played same stop count bytes = ap (raw_part (turn_sink e) k) bytes ∙ raw-is w e k
+shown_is lens.Summary w e effects stopped frames played same stop count bytes = refl

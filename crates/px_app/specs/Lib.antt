@@ -7,6 +7,7 @@ pub mod View
 pub mod Played
 pub mod Plays
 pub mod Replay
+pub mod Convert
 pub mod Ending
 pub mod Report
 pub mod Stage

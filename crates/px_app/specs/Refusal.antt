@@ -3,7 +3,7 @@ use Rattle.std.specs.Prelude.{ℕ, List, ◌++◌, codes, decimal}
 use Rattle.px_session.specs.declared.fault.Cause.{Cause}
 use Rattle.px_session.specs.declared.fault.Cause.TheVariants.{Magic, Header, Truncated, Endless, Trailing, Kind, TooLong}
 use Rattle.px_session.specs.declared.event.Event.{Event}
-use Rattle.px_session.specs.declared.event.Event.TheVariants.{Connect, Bytes, Close, Cut, Turn, Collect}
+use Rattle.px_session.specs.declared.event.Event.TheVariants.{Connect, Bytes, Close, Cut, Turn, Collect, Stop}
 use Rattle.px_session.specs.Place.{Refusal as Broken}
 use Rattle.px_world.specs.declared.fault.WorldFault.{WorldFault}
 use Rattle.px_world.specs.declared.fault.WorldFault.TheVariants.{Live, NotLive, NoSink, Worn, TooMany, NoMemory}
@@ -25,6 +25,7 @@ number_of (Close conn) = conn.0
 number_of (Cut conn) = conn.0
 number_of (Turn sink frames messages) = sink
 number_of (Collect sink notices) = sink
+number_of (Stop sink) = sink.0
 
 -- the refusal of an event that the world doesn't admit, whose kind byte is at offset `at`
 abbrev pub of_event : ℕ → Event → WorldFault → Refusal

@@ -10,6 +10,7 @@ use Rattle.px_session.specs.declared.event.Step.TheVariants as step
 use Rattle.px_session.specs.declared.fault.Cause.TheVariants.{Truncated}
 use Rattle.px_session.specs.declared.fault.ReadError.{ReadError}
 use Rattle.px_session.specs.declared.fault.ReadError.TheVariants as error
+use Rattle.px_session.specs.declared.form.Form.{Form}
 use Rattle.px_session.specs.HeaderReading.{header_at}
 use Rattle.px_session.specs.Place.{start_of}
 use Rattle.px_session.specs.Reader.{Reader, place_with}
@@ -60,9 +61,10 @@ StepReads (Err ended) before now = EndReads ended before now
 -- the bytes that were read are a header, the reader stands after it, and nothing was written
 pub record IsOpened (reader : Reader) (header : Header) (before after : Ends) : Type 0 where
   pub bytes : List ℕ
+  pub form : Form
   pub departed : before.left ≡ before_taking bytes after.left
-  pub head : header_at (start_of bytes) ≡ Ok (header, place_with reader reader.ahead)
-  pub begun : reader.begun ≡ true
+  pub head : header_at (start_of bytes) ≡ Ok ((form, header), place_with reader reader.ahead)
+  pub begun : reader.begun ≡ Some form
   pub same : after.held ≡ before.held
 
 -- the bytes that were read are refused before they are a header, and nothing was written
@@ -147,7 +149,7 @@ module _ {T W A L : Type 0} (mode : Mode W A L) (stands : T → L → Header →
     pub look : L
     pub departed : first.left ≡ before_taking bytes now.left
     pub begins : Begins mode.course bytes header events (place_with playing.reader playing.reader.ahead)
-    pub begun : playing.reader.begun ≡ true
+    pub begun : playing.reader.begun ≡ Some begins.form
     pub looks : mode.looks asked header ≡ Some look
     pub stage : stands playing.stage look header events
     pub gained : now.held ≡ after_adding first.held (parts_by mode look header events)

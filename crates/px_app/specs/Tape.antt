@@ -9,7 +9,8 @@ use Rattle.px_ends.specs.Whole.{AddsFront}
 use Rattle.px_session.specs.declared.event.Event.{Event}
 use Rattle.px_header.specs.declared.header.Header.{Header}
 use Rattle.px_session.specs.EventRules.{IsEvent}
-use Rattle.px_session.specs.Spelling.{session}
+use Rattle.px_session.specs.Spelling.{spelled}
+use Rattle.px_tape.specs.Tape.{form}
 
 -- a sink of bytes: its bytes, where they are visible, and how many of its calls failed
 pub record Output : Type 0 where
@@ -27,10 +28,10 @@ faulted other = other
 -- the session of these events was written, or a write failed after a front of it
 abbrev pub WritesEvents : Header → List Event → Output → Output → Status → Status → Type 0
 WritesEvents header events before after ended answered =
-    ((answered ≡ ended) × (after.held ≡ after_adding before.held (session header events)) × (after.faults ≡ before.faults))
-    ⊎ ((answered ≡ faulted ended) × AddsFront (session header events) before.held after.held × Rose before.faults after.faults)
+    ((answered ≡ ended) × (after.held ≡ after_adding before.held (spelled form header events)) × (after.faults ≡ before.faults))
+    ⊎ ((answered ≡ faulted ended) × AddsFront (spelled form header events) before.held after.held × Rose before.faults after.faults)
 
 -- a call that ended so wrote its tape, whose events are a possible session; without one it wrote nothing
 abbrev pub WritesTape : Header → Option (List Event) → Output → Output → Status → Status → Type 0
 WritesTape header None before after ended answered = (answered ≡ ended) × (after ≡ before)
-WritesTape header (Some events) before after ended answered = AllByRecursion IsEvent events × WritesEvents header events before after ended answered
+WritesTape header (Some events) before after ended answered = AllByRecursion (IsEvent form) events × WritesEvents header events before after ended answered

@@ -25,9 +25,10 @@ in_64_bits (Some n) = cond (nat_lt n (2 ^ 64)) (Some n) None
 
 -- ---- commands
 
--- what the words ask for: a replay that shows this, a session generated from a number and a count, or serving; none of these for other words
+-- what the words ask for: a replay that shows this, a conversion, a session generated from a number and a count, or serving; none of these for other words
 pub data Command : Type 0 where
   Replay : Shown → Command
+  Convert : Command
   Gen : ℕ → ℕ → Command
   Serve : Command
   Other : Command
@@ -40,9 +41,12 @@ gen_of None count = None
 gen_of (Some number) None = None
 gen_of (Some number) (Some count) = cond (nat_le count MOST_STEPS) (Some (Gen number count)) None
 
--- replay, or summary
+-- replay, summary or convert
 abbrev pub of_one : List ℕ → Option Command
-of_one word = cond (bytes_eq word (codes "replay")) (Some (Replay Records)) (cond (bytes_eq word (codes "summary")) (Some (Replay Summary)) None)
+of_one word =
+    cond (bytes_eq word (codes "replay")) (Some (Replay Records))
+    (cond (bytes_eq word (codes "summary")) (Some (Replay Summary))
+    (cond (bytes_eq word (codes "convert")) (Some Convert) None))
 
 -- replay --raw SINK, or gen NUMBER COUNT
 abbrev pub of_three : List ℕ → List ℕ → List ℕ → Option Command
@@ -61,6 +65,7 @@ meaning_in (a ∷ b ∷ c ∷ d ∷ more) = None
 -- the same, as the code has them
 abbrev pub meaning_of : Words → Command
 meaning_of (words.Replay view) = Replay (shown_of view)
+meaning_of words.Convert = Convert
 meaning_of (words.Gen number count) = Gen number count
 
 -- words that begin with `serve`

@@ -1,9 +1,11 @@
-//! The program's top call, `run`, and what it does by the words of the command line: `replay` plays a recorded session, `gen` makes one,
-//! `serve` serves live clients.
-//! It exports these two, `View`, `Ending`, the `Refusal`s of a session, `report`, which writes to a log how a run ended, and the
+//! The program's top call, `run`, and what it does by the words of the command line: `replay` plays a recorded session,
+//! `convert` writes it in the second form, `gen` makes one, `serve` serves live clients.
+//! It exports these, `View`, `Ending`, the `Refusal`s of a session, `report`, which writes to a log how a run ended, and the
 //! laws on inputs and refusals.
 #![tactic(auto)]
 
+mod converting;
+mod convert_stage;
 mod ending;
 mod law;
 mod log;
@@ -25,8 +27,12 @@ mod view;
 mod words;
 
 pub use crate::log::report;
+pub use converting::convert;
 pub use ending::Ending;
-pub use law::{inputs_are_played_or_refused, refusals_are_final, replays_are_runs_of_the_world};
+pub use law::{
+    conversions_replay_the_same, inputs_are_played_or_refused, refusals_are_final,
+    replays_are_runs_of_the_world,
+};
 pub use program::run;
 pub use refusal::{Refusal, Why};
 pub use replaying::replay;

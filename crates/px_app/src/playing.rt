@@ -1,9 +1,10 @@
 //! Playing an input by a mode: the reader of the session, and the mode's stage.
 
-ghost use Rattle.std.specs.Prelude.{◌≡◌, ◌<◌, ◌≤◌, ◌^◌, ◌+◌, ◌-◌, ℕ, List, [], ◌∷◌, ◌++◌, Option, Some, true, OnOk, IfErr};
+ghost use Rattle.std.specs.Prelude.{◌≡◌, ◌<◌, ◌≤◌, ◌^◌, ◌+◌, ◌-◌, ℕ, List, [], ◌∷◌, ◌++◌, Option, Some, IsSome, OnOk, IfErr};
 ghost use Rattle.px_ends.specs.Visible.{after_adding};
 ghost use Rattle.px_header.specs.declared.header.Header.{Header as Head};
 ghost use Rattle.px_session.specs.declared.event.Event.{Event as Happening};
+ghost use Rattle.px_session.specs.declared.form.Form.TheVariants as forms;
 ghost use Rattle.px_session.specs.Writing.{FitsEvent};
 ghost use Rattle.px_app.specs.Ends.{Ends, ends_of, Grew};
 ghost use Rattle.px_app.specs.Mode.{state_after};
@@ -55,7 +56,7 @@ fn ending_with(ended: Ending, is_written: bool) -> Ending
 impl<T: Stage> Playing<T> {
     // Plays an event whose kind byte is at offset `at`, gathers what is shown of it, and gives its text back to the reader.
     fn play_event(&mut self, alloc: Global, at: u64, e: Event) -> Result<(), Ending>
-        requires fits { FitsEvent e }
+        requires fits { FitsEvent forms.Two e }
         requires counts { T.counts self.old.stage (2 ^ 40 - 1) }
         ensures played { (look : T.Look) (header : Head) (events : List Happening) (held : Option (List ℕ)) → T.stands self.old.stage look header events
             → EventStepped T.mode result at look (state_after T.mode.course header events) e
@@ -91,13 +92,13 @@ impl<T: Stage> Playing<T> {
 
     // Reads and plays the next event, or ends after the last one.
     fn step<S: Source>(&mut self, alloc: Global, input: &mut S) -> Result<(), Ending>
-        requires begun { self.old.reader.begun ≡ true }
+        requires begun { IsSome self.old.reader.begun }
         requires counts { T.counts self.old.stage self.old.reader.at }
         ensures stepped { (asked : T.Asked) (first : Ends) (held : Option (List ℕ)) (written : ℕ)
             → Reached T.mode T.stands asked self.old first (ends_of (S.left input.old) (S.faults input.old) (after_adding held self.old.pieces.bytes) written)
             → Stepped T.mode T.stands asked result self.new first (ends_of (S.left input.new) (S.faults input.new) (after_adding held self.new.pieces.bytes) written) }
         ensures forward { OnOk result ((self.old.reader.at < self.new.reader.at) × (self.new.reader.at ≤ 2 ^ 40)) }
-        ensures begun { OnOk result (self.new.reader.begun ≡ true) }
+        ensures begun { OnOk result (IsSome self.new.reader.begun) }
         ensures counts { OnOk result (T.counts self.new.stage self.new.reader.at) }
         ensures reads { StepReads result (S.faults input.old) (S.faults input.new) }
     {
@@ -124,7 +125,7 @@ impl<T: Stage> Playing<T> {
 
     // Reads and plays to the end, and writes what is shown in pieces.
     fn run<S: Source, K: Sink>(&mut self, alloc: Global, input: &mut S, output: &mut K) -> Ending
-        requires begun { self.old.reader.begun ≡ true }
+        requires begun { IsSome self.old.reader.begun }
         requires counts { T.counts self.old.stage self.old.reader.at }
         ensures played { (asked : T.Asked) (first : Ends) (written : ℕ)
             → Reached T.mode T.stands asked self.old first (ends_of (S.left input.old) (S.faults input.old) (after_adding (K.held output.old) self.old.pieces.bytes) written)
@@ -146,9 +147,10 @@ impl<T: Stage> Playing<T> {
 
     // Gathers what is shown of the header, and plays the rest.
     fn begin<S: Source, K: Sink>(&mut self, alloc: Global, input: &mut S, output: &mut K) -> Ending
-        requires begun { self.old.reader.begun ≡ true }
+        requires begun { IsSome self.old.reader.begun }
         requires counts { T.counts self.old.stage self.old.reader.at }
         requires empty { self.old.pieces.bytes ≡ [] }
+        requires ready { T.ready self.old.stage }
         ensures played { (asked : T.Asked) (look : T.Look) (header : Head) (first : Ends) (written : ℕ)
             → IsOpened self.old.reader header first (ends_of (S.left input.old) (S.faults input.old) (K.held output.old) written)
             → T.mode.looks asked header ≡ Some look → T.stands self.old.stage look header []
@@ -172,8 +174,9 @@ pub(crate) fn play<T: Stage + Drop, S: Source, K: Sink>(
     input: &mut S,
     output: &mut K,
 ) -> Ending
-    requires begun { reader.begun ≡ true }
+    requires begun { IsSome reader.begun }
     requires counts { T.counts stage reader.at }
+    requires ready { T.ready stage }
     ensures played { (asked : T.Asked) (look : T.Look) (header : Head) (first : Ends) (written : ℕ)
         → IsOpened reader header first (ends_of (S.left input.old) (S.faults input.old) (K.held output.old) written)
         → T.mode.looks asked header ≡ Some look → T.stands stage look header []

@@ -1,9 +1,9 @@
 //! Reads a session: its header, and then its events.
 
-ghost use Rattle.std.specs.Prelude.{◌≡◌, ◌<◌, ◌≤◌, ◌^◌, ℕ, List, Option, true, false, IfOk, OnOk, IfSome};
+ghost use Rattle.std.specs.Prelude.{◌≡◌, ◌<◌, ◌≤◌, ◌^◌, ℕ, List, Option, None, IsSome, IfOk, OnOk, IfSome};
 ghost use Rattle.px_session.specs.Reader.{Takes};
 ghost use Rattle.px_header.specs.HeaderRules.{IsHeader};
-ghost use Rattle.px_session.specs.EventRules.{IsEvent};
+ghost use Rattle.px_session.specs.declared.form.Form.TheVariants as forms;
 ghost use Rattle.px_session.specs.Held.{ReadCounts};
 ghost use Rattle.px_session.specs.Writing.{FitsHeader, FitsEvent};
 ghost use Rattle.px_app.specs.Ends.{ends_of};
@@ -17,8 +17,11 @@ use px_session::{Event, ReadError, Reader, Step};
 use std::alloc::Global;
 
 // Reads the header.
-fn next_header<S: Source>(reader: &mut Reader, input: &mut S) -> Result<Header, ReadError>
-    requires { reader.old.begun ≡ false }
+fn next_header<S: Source>(
+    reader: &mut Reader,
+    input: &mut S,
+) -> Result<Header, ReadError>
+    requires { reader.old.begun ≡ None }
     ensures takes { Takes (header_step result) reader.old reader.new (S.left input.old) (S.left input.new) }
     ensures lawful { IfOk result IsHeader }
     ensures fits { IfOk result FitsHeader }
@@ -37,10 +40,10 @@ pub(crate) fn next_event<S: Source>(
     reader: &mut Reader,
     input: &mut S,
 ) -> Result<Option<Event>, ReadError>
-    requires { reader.old.begun ≡ true }
+    requires { IsSome reader.old.begun }
     ensures takes { Takes (event_step result) reader.old reader.new (S.left input.old) (S.left input.new) }
-    ensures lawful { IfOk result (λ found. IfSome found IsEvent) }
-    ensures fits { IfOk result (λ found. IfSome found FitsEvent) }
+    ensures fits { IfOk result (λ found. IfSome found (FitsEvent forms.Two)) }
+    ensures begun { OnOk result (IsSome reader.new.begun) }
     ensures forward { OnOk result ((reader.old.at < reader.new.at) × (reader.new.at ≤ 2 ^ 40)) }
     ensures counts { ReadCounts result (S.faults input.old) (S.faults input.new) }
 {
@@ -70,7 +73,7 @@ pub(crate) fn unread(e: ReadError) -> Ending
 pub(crate) fn open<S: Source>(alloc: Global, input: &mut S) -> Result<(Reader, Header), Ending>
     ensures opened { (held : Option (List ℕ)) (written now : ℕ) → Opened result
         (ends_of (S.left input.old) (S.faults input.old) held written) (ends_of (S.left input.new) (S.faults input.new) held now) }
-    ensures begun { IfOk result (λ opened. opened.0.begun ≡ true) }
+    ensures begun { IfOk result (λ opened. IsSome opened.0.begun) }
     ensures lawful { IfOk result (λ opened. IsHeader opened.1) }
     ensures fits { IfOk result (λ opened. FitsHeader opened.1) }
     ensures reads { StepReads result (S.faults input.old) (S.faults input.new) }

@@ -6,7 +6,7 @@ ghost use Rattle.px_ends.specs.Visible.{after_adding};
 ghost use Rattle.px_ends.specs.Whole.{AddsFront};
 ghost use Rattle.px_state.specs.Effect.{IsSendable, AreSendable};
 ghost use Rattle.px_world.specs.Output.{effect_record};
-ghost use Rattle.px_app.specs.Records.{turn_sink, played_part, raw_part, shown_part};
+ghost use Rattle.px_app.specs.Records.{turn_sink, turn_part, raw_part, shown_part};
 
 use crate::view::Lens;
 use px_core::Effect;
@@ -63,18 +63,20 @@ fn write_effects<K: Sink>(output: &mut K, effects: &[Effect]) -> Result<(), Writ
     Ok(())
 }
 
-// Writes the record of the frames that a turn's device consumed, if there are any.
-fn write_played<K: Sink>(
+// Writes the record of a turn that stopped its sink, whose filled count is `stopped`; else of the frames that its device consumed, if there are any.
+fn write_turn<K: Sink>(
     output: &mut K,
     sink: Option<u8>,
+    stopped: Option<u64>,
     frames: u32,
     bytes: &[u8],
 ) -> Result<(), WriteError>
-    ensures ok { OnOk result (K.held output.new ≡ after_adding (K.held output.old) (played_part sink frames bytes.now)) }
-    ensures err { OnErr result (AddsFront (played_part sink frames bytes.now) (K.held output.old) (K.held output.new)) }
+    ensures ok { OnOk result (K.held output.new ≡ after_adding (K.held output.old) (turn_part sink stopped frames bytes.now)) }
+    ensures err { OnErr result (AddsFront (turn_part sink stopped frames bytes.now) (K.held output.old) (K.held output.new)) }
 {
-    match sink {
-        Some(sink) if frames > 0 => write_effect(
+    match (sink, stopped) {
+        (Some(sink), Some(filled)) => write_effect(output, &OutRecord::Stopped { sink, filled }),
+        (Some(sink), None) if frames > 0 => write_effect(
             output,
             &OutRecord::Played {
                 sink,
@@ -93,12 +95,18 @@ fn write_records<K: Sink>(
     outcome: &Outcome,
 ) -> Result<(), WriteError>
     ensures ok { OnOk result (K.held output.new ≡ after_adding (K.held output.old)
-        (flat_map effect_record outcome.now.effects ++ played_part sink outcome.now.frames outcome.now.played)) }
+        (flat_map effect_record outcome.now.effects ++ turn_part sink outcome.now.stopped outcome.now.frames outcome.now.played)) }
     ensures err { OnErr result (AddsFront
-        (flat_map effect_record outcome.now.effects ++ played_part sink outcome.now.frames outcome.now.played) (K.held output.old) (K.held output.new)) }
+        (flat_map effect_record outcome.now.effects ++ turn_part sink outcome.now.stopped outcome.now.frames outcome.now.played) (K.held output.old) (K.held output.new)) }
 {
     write_effects(output, outcome.effects.as_slice())?;
-    write_played(output, sink, outcome.frames, outcome.played.as_slice())
+    write_turn(
+        output,
+        sink,
+        outcome.stopped,
+        outcome.frames,
+        outcome.played.as_slice(),
+    )
 }
 
 // Writes the bytes that a turn of sink `of` consumed.
@@ -128,9 +136,9 @@ pub(crate) fn write_outcome<K: Sink>(
     outcome: &Outcome,
 ) -> Result<(), WriteError>
     ensures ok { OnOk result (K.held output.new ≡ after_adding (K.held output.old)
-        (shown_part lens sink outcome.now.effects outcome.now.frames outcome.now.played)) }
+        (shown_part lens sink outcome.now.effects outcome.now.stopped outcome.now.frames outcome.now.played)) }
     ensures err { OnErr result (AddsFront
-        (shown_part lens sink outcome.now.effects outcome.now.frames outcome.now.played) (K.held output.old) (K.held output.new)) }
+        (shown_part lens sink outcome.now.effects outcome.now.stopped outcome.now.frames outcome.now.played) (K.held output.old) (K.held output.new)) }
 {
     match lens {
         Lens::Records => write_records(output, sink, outcome),

@@ -38,6 +38,7 @@ pub(crate) fn number_of(e: &Event) -> u32
             conn.0
         }
         Event::Turn { sink, .. } | Event::Collect { sink, .. } => u32::from(*sink),
+        Event::Stop(sink) => u32::from(sink.0),
     }
 }
 

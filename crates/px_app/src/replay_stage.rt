@@ -92,6 +92,8 @@ impl Stage for Replaying {
 
     ghost stands = { λ stage look header events. IsAfter stage look header events };
 
+    ghost ready = { λ stage. Unit {0} };
+
     ghost counts = { λ stage at. AreFew stage.tally at };
 
     fn open(&self, pieces: &mut Pieces) -> Mem<()> {

@@ -4,6 +4,7 @@ ghost use Rattle.std.specs.Prelude.{◌≡◌, ◌≤◌, ◌+◌, ◌-◌, ◌^
 ghost use Rattle.px_ends.specs.Visible.{after_adding};
 ghost use Rattle.px_header.specs.declared.header.Header.{Header as Head};
 ghost use Rattle.px_session.specs.declared.event.Event.{Event as Happening};
+ghost use Rattle.px_session.specs.declared.form.Form.TheVariants as forms;
 ghost use Rattle.px_session.specs.Writing.{FitsEvent};
 ghost use Rattle.px_app.specs.Mode.{Mode, state_after};
 ghost use Rattle.px_app.specs.Stage.{AddsPart, EventPlayed};
@@ -30,22 +31,26 @@ pub(crate) trait Stage {
     /// It stands after these events of a session with this header, which it looks at so.
     ghost stands: { Self → Look → Head → List Happening → Type 0 };
 
+    /// It can write what is shown of the header.
+    ghost ready: { Self → Type 0 };
+
     /// Its counts have room for the events in this many bytes.
     ghost counts: { Self → ℕ → Type 0 };
 
     /// Writes what is shown of the header.
     fn open(&self, pieces: &mut Pieces) -> Mem<()>
+        requires { ready self.now }
         ensures { (look : Look) (header : Head) (held : Option (List ℕ)) → stands self.now look header []
             → AddsPart result (mode.opens look header) (after_adding held pieces.old.bytes) (after_adding held pieces.new.bytes) };
 
-    /// Takes an event, and writes what is shown of it. Gives back the event's text, where its bytes are no longer needed.
+    /// Takes an event, of either form, and writes what is shown of it. Gives back the event's text, where its bytes are no longer needed.
     fn event(
         &mut self,
         alloc: Global,
         e: Event,
         pieces: &mut Pieces,
     ) -> Result<Option<Text>, WorldFault>
-        requires fits { FitsEvent e }
+        requires fits { FitsEvent forms.Two e }
         requires counts { counts self.old (2 ^ 40 - 1) }
         ensures played { (look : Look) (header : Head) (events : List Happening) (held : Option (List ℕ)) → stands self.old look header events
             → EventPlayed mode result look (state_after mode.course header events) e (after_adding held pieces.old.bytes) (after_adding held pieces.new.bytes) }

@@ -13,6 +13,8 @@ const MOST_STEPS: u64 = 1_000_000;
 pub(crate) enum Words<'a> {
     /// A session is replayed.
     Replay(View<'a>),
+    /// A session is converted.
+    Convert,
     /// A session is generated.
     Gen { number: u64, count: u32 },
 }
@@ -47,6 +49,8 @@ fn one(word: &str) -> Option<Words<'_>>
         Some(Words::Replay(View::Records))
     } else if word == "summary" {
         Some(Words::Replay(View::Summary))
+    } else if word == "convert" {
+        Some(Words::Convert)
     } else {
         None
     }

@@ -23,7 +23,8 @@ use Rattle.px_world.specs.World.{Mixer, new_mixer, new_world}
 use Rattle.px_world.specs.Playing.{mixer_of}
 use Rattle.px_world.specs.Running.{StandsFor}
 use Rattle.px_world.specs.Consistency.{HasStream, GivesStream, IsMixerOf, AreConsistent}
-use Rattle.px_world.specs.Doing.{Unless, loses, running_of, set_to_fail}
+use Rattle.px_world.specs.Event.{set_to_fail}
+use Rattle.px_world.specs.Parts.{Unless, loses, running_of}
 use Rattle.px_world.proofs.Consistent.{consistent-notices}
 use Rattle.px_world.proofs.Sounding.{seen-at}
 use Rattle.px_world.proofs.Standing.{stands-first}

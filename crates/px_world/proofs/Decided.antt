@@ -17,9 +17,7 @@ use Rattle.px_stream.specs.Samples.{samples}
 use Rattle.px_world.specs.World.{Mixer, new_mixer, new_world}
 use Rattle.px_world.specs.Output.{world_by, AreAdmitted}
 use Rattle.px_world.specs.History.{history_by, played_by_run, begun, sink_at, IsDecidedIn, IsDecided}
-use Rattle.px_world.specs.Continuity.{Doing, done_all, CanAllBeDone, history_over, played_over}
 use Rattle.px_world.proofs.Histories.{HasGone, has_gone}
-use Rattle.px_world.proofs.Tracks.{HasGoneOver, has-gone-over}
 
 -- ---- what was consumed lies below the horizon
 
@@ -81,26 +79,3 @@ module _ (header : Header) (events : List Event) (k : ℕ) (s : SinkSpec) (there
 
   pub is-decided : AreAdmitted (new_world header) events → (f : ℕ) → f < length (played_by_run (new_world header) events k) → IsDecided header events k s f
   is-decided admitted f below = decided-in s (history_by (new_world header) events k) (played_by_run (new_world header) events k) gone.played (gone.history admitted) f below
-
--- ---- a run in which sinks may fail
-
-module _ (header : Header) (doings : List Doing) (k : ℕ) (s : SinkSpec) (there : slice_get header.sinks k ≡ Some s) where
-  gone-over : HasGoneOver (new_world header) doings k (new_mixer s)
-  gone-over = has-gone-over (new_world header) doings k (new_mixer s) (slice_get-map new_mixer header.sinks k ∙ ap (option_map new_mixer) there)
-
-  pub sink-over : sink_at (done_all (new_world header) doings) k ≡ Some (replay samples (begun s) (history_over (new_world header) doings k))
-  sink-over = ap (option_map (λ m. Mixer.sink m)) gone-over.there ∙ ap (λ t. Some t) gone-over.sink
-
-  pub played-over : played_over (new_world header) doings k ≡ replay_played samples (begun s) (history_over (new_world header) doings k)
-  played-over = gone-over.played
-
-  pub history-can : CanAllBeDone (new_world header) doings → IsHistory samples (begun s) (history_over (new_world header) doings k)
-  history-can = gone-over.history
-
-  pub consumed-over : CanAllBeDone (new_world header) doings
-      → length (played_over (new_world header) doings k) ≡ (replay samples (begun s) (history_over (new_world header) doings k)).consumed
-  consumed-over can = all-consumed s (history_over (new_world header) doings k) (played_over (new_world header) doings k) gone-over.played (gone-over.history can)
-
-  pub decided-over : CanAllBeDone (new_world header) doings → (f : ℕ) → f < length (played_over (new_world header) doings k)
-      → IsDecidedIn (begun s) (history_over (new_world header) doings k) (played_over (new_world header) doings k) f
-  decided-over can f below = decided-in s (history_over (new_world header) doings k) (played_over (new_world header) doings k) gone-over.played (gone-over.history can) f below

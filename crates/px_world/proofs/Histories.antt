@@ -2,10 +2,11 @@
 use Rattle.std.proofs.Common.{◌≡◌, ℕ, zero, suc, ◌-◌, ◌≤◌, Bool, true, false, cond, List, [], ◌∷◌, ◌++◌, length, set, append-nil, Option, None, Some, refl, ap, sym, subst, ◌∙◌, ⊎_elim}
 use Rattle.std.specs.Prelude.{nat_eq, nat_lt}
 use Rattle.std.specs.List.{slice_get}
-use Rattle.std.proofs.lemmas.Bool.{cases_Bool, cond-true, cond-false, eqb-true, eqb-false, ltb-false, or_parts}
+use Rattle.std.proofs.lemmas.Bool.{cases_Bool, cond-true, cond-false, cond_both, eqb-true, eqb-false, ltb-false, or_parts}
 use Rattle.std.proofs.lemmas.Option.{none-some}
+use Rattle.px_types.specs.declared.ids.SinkId.{SinkId}
 use Rattle.px_session.specs.declared.event.Event.{Event}
-use Rattle.px_session.specs.declared.event.Event.TheVariants.{Connect, Bytes, Close, Cut, Turn, Collect}
+use Rattle.px_session.specs.declared.event.Event.TheVariants.{Connect, Bytes, Close, Cut, Turn, Collect, Stop}
 use Rattle.px_model.specs.Message.{Message}
 use Rattle.px_model.specs.Stream.{Stream}
 use Rattle.px_model.specs.Sink.{Sink}
@@ -18,7 +19,7 @@ use Rattle.px_world.specs.declared.fault.WorldFault.{WorldFault}
 use Rattle.px_world.specs.declared.fault.WorldFault.TheVariants.{TooMany}
 use Rattle.px_world.specs.World.{World, Mixer}
 use Rattle.px_world.specs.Admission.{LAST_FILLED, too_many, or_else, refusal_of, turn_refusal}
-use Rattle.px_world.specs.Event.{world_after, mixers_after, change_at, mixer_stopped, mixer_played, mixer_turned, mixer_collected, messages_taken, is_to_stop, frames_played}
+use Rattle.px_world.specs.Event.{world_after, mixers_after, change_at, mixer_stopped, mixer_played, mixer_turned, mixer_collected, set_to_fail, messages_taken, is_to_stop, frames_played}
 use Rattle.px_world.specs.Event as world
 use Rattle.px_world.specs.Output.{world_by, AreAdmitted}
 use Rattle.px_world.specs.History.{entry_of, entries_of, played_on, history_by, played_by_run}
@@ -164,6 +165,26 @@ collected w sink n k m there false e = record {
   history = λ admitted. tt;
 }
 
+-- a device that is set to fail is no turn
+pub fail-sink : (m : Mixer) → (set_to_fail m).sink ≡ m.sink
+fail-sink m = cond_both m.sink.stopped m (record m { failing = true }) (λ x. Mixer.sink x ≡ m.sink) (λ e. refl) (λ e. refl)
+
+failed : (w : World) (sink : SinkId) (k : ℕ) (m : Mixer) → slice_get w.mixers k ≡ Some m → (b : Bool) → nat_eq sink.0 k ≡ b → GoesThrough w (Stop sink) k m
+failed w sink k m there true e = record {
+  next = set_to_fail m;
+  there = changed-there w.mixers sink.0 k m there set_to_fail e;
+  sink = fail-sink m;
+  played = refl;
+  history = λ admitted. tt;
+}
+failed w sink k m there false e = record {
+  next = m;
+  there = changed-elsewhere w.mixers sink.0 k m there set_to_fail e;
+  sink = refl;
+  played = refl;
+  history = λ admitted. tt;
+}
+
 turned_or_not : (w : World) (sink frames n k : ℕ) (m : Mixer) → slice_get w.mixers k ≡ Some m → (b : Bool) → nat_eq sink k ≡ b → GoesThrough w (Turn sink frames n) k m
 turned_or_not w sink frames n k m there true e = turn-here w sink frames n k m there e (is_to_stop m) refl
 turned_or_not w sink frames n k m there false e = turn-elsewhere w sink frames n k m there e
@@ -175,6 +196,7 @@ goes_through w (Close conn) k m there = record { next = m; there = there; sink =
 goes_through w (Cut conn) k m there = record { next = m; there = there; sink = refl; played = refl; history = λ admitted. tt }
 goes_through w (Turn sink frames n) k m there = turned_or_not w sink frames n k m there (nat_eq sink k) refl
 goes_through w (Collect sink n) k m there = collected w sink n k m there (nat_eq sink k) refl
+goes_through w (Stop sink) k m there = failed w sink k m there (nat_eq sink.0 k) refl
 
 -- ---- a run
 

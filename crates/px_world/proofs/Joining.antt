@@ -1,5 +1,5 @@
 -- Over any run the track of an input is joined, its indices rise, and its stream stands ready to go on.
-use Rattle.std.proofs.Common.{◌≡◌, ℕ, zero, suc, ◌<◌, ◌≤◌, arith, List, [], ◌∷◌, ◌++◌, map, take, set, length, replicate, Option, None, Some, refl, ap, sym, ◌∙◌, subst}
+use Rattle.std.proofs.Common.{◌≡◌, ℕ, zero, suc, ◌≤◌, arith, List, [], ◌∷◌, ◌++◌, map, take, set, length, replicate, Option, None, Some, refl, ap, sym, ◌∙◌, subst}
 use Rattle.std.specs.Prelude.{nat_lt}
 use Rattle.std.specs.List.{AllByRecursion, slice_get}
 use Rattle.std.proofs.lemmas.Bool.{cond_both}
@@ -7,8 +7,9 @@ use Rattle.std.proofs.lemmas.Option.{none-some}
 use Rattle.px_header.specs.declared.header.Header.{Header}
 use Rattle.px_header.specs.declared.header.SinkSpec.{SinkSpec}
 use Rattle.px_header.specs.HeaderRules.{IsHeader}
+use Rattle.px_types.specs.declared.ids.SinkId.{SinkId}
 use Rattle.px_session.specs.declared.event.Event.{Event}
-use Rattle.px_session.specs.declared.event.Event.TheVariants.{Connect, Bytes, Close, Cut, Turn, Collect}
+use Rattle.px_session.specs.declared.event.Event.TheVariants.{Connect, Bytes, Close, Cut, Turn, Collect, Stop}
 use Rattle.px_model.specs.Notice.{Notice}
 use Rattle.px_model.specs.Stream.{Stream}
 use Rattle.px_model.specs.Track.{Stretch, IsJoined, Rise, indices_of_all}
@@ -20,26 +21,25 @@ use Rattle.px_core.specs.Step.{sweep, notice, stepped_by}
 use Rattle.px_core.proofs.ParcelLaws.{new_carry}
 use Rattle.px_world.specs.declared.fault.WorldFault.TheVariants.{NoSink}
 use Rattle.px_world.specs.World.{World, Mixer, new_mixer, new_world, link_of, received_of}
-use Rattle.px_world.specs.Admission.{refusal_of, turn_refusal, collect_refusal}
-use Rattle.px_world.specs.Event.{world_after, all_steps, mixers_after, bytes_steps, notices_of, mixer_turned, mixer_collected, change_at, messages_taken}
-use Rattle.px_world.specs.Doing.{set_to_fail}
-use Rattle.px_world.specs.Continuity.{Doing, happens, fails, done, CanBeDone, done_all, CanAllBeDone, settled_in, at_sink, settled_by_event, settled_by, track_by, stretches_of}
+use Rattle.px_world.specs.Admission.{refusal_of, turn_refusal, collect_refusal, stop_refusal}
+use Rattle.px_world.specs.Event.{world_after, all_steps, mixers_after, bytes_steps, notices_of, mixer_turned, mixer_collected, set_to_fail, change_at, messages_taken}
+use Rattle.px_world.specs.Continuity.{settled_in, at_sink, settled_by, track_by, stretches_of}
+use Rattle.px_world.specs.Output.{world_by, AreAdmitted}
 use Rattle.px_world.specs.Whereabouts.{last_of, Stands, MovesReady, unborn, coming, places, IsReadyAt}
 use Rattle.px_world.proofs.Beginning.{consistent-first}
 use Rattle.px_world.proofs.Bodies.{ArePlain, bytes-plain, plain-join}
 use Rattle.px_world.proofs.Histories.{frames_there}
 use Rattle.px_world.proofs.Moving.{Holds, plain-holds, collect-holds, fail-holds}
-use Rattle.px_world.proofs.Places.{there-at}
 use Rattle.px_world.proofs.Tracks.{map_join}
 use Rattle.px_world.proofs.Turning.{JoinsOn, GoesOn, turn-goes-on}
 
--- ---- one doing
+-- ---- one event
 
 -- a world in which the stream of the input can go on after its last stretch
-abbrev HoldsIn : World → ℕ → Option Stretch → Type 0
+abbrev pub HoldsIn : World → ℕ → Option Stretch → Type 0
 HoldsIn w i last = Holds w.core w.mixers i last
 
-abbrev GoesOnIn : World → ℕ → Option Stretch → List Stretch → Type 0
+abbrev pub GoesOnIn : World → ℕ → Option Stretch → List Stretch → Type 0
 GoesOnIn w i last track = GoesOn w.core w.mixers i last track
 
 -- nothing is settled
@@ -71,7 +71,13 @@ collect-goes w sink n i last (Some m) there admitted h =
     subst (λ (o : Option Mixer). Holds (stepped_by Stream.spec w.core (map (λ (x : Notice Stream). notice (record { 0 = sink }) (notice_for x)) (take n (notices_of o)) ++ sweep ∷ [])) (set w.mixers sink (mixer_collected m n)) i last)
     (sym there) (collect-holds w.core w.mixers sink n i last m there h)
 
-event-goes : (w : World) (e : Event) (i : ℕ) (last : Option Stretch) → refusal_of w e ≡ None → HoldsIn w i last → GoesOnIn (world_after w e) i last (stretches_of (settled_by_event w e i))
+stop-goes : (w : World) (sink : SinkId) (i : ℕ) (last : Option Stretch) (o : Option Mixer) → slice_get w.mixers sink.0 ≡ o → stop_refusal o ≡ None → HoldsIn w i last
+    → Holds (stepped_by Stream.spec w.core (all_steps w (Stop sink))) (change_at w.mixers sink.0 o set_to_fail) i last
+stop-goes w sink i last None there admitted h = absurd (none-some NoSink (sym admitted))
+stop-goes w sink i last (Some m) there admitted h =
+    fail-holds (stepped_by Stream.spec w.core (sweep ∷ [])) w.mixers sink.0 i last m there (plain-holds w.core w.mixers (sweep ∷ []) i last sweep-plain h)
+
+pub event-goes : (w : World) (e : Event) (i : ℕ) (last : Option Stretch) → refusal_of w e ≡ None → HoldsIn w i last → GoesOnIn (world_after w e) i last (stretches_of (settled_by w e i))
 event-goes w (Connect conn) i last admitted h = plain-rests w (Connect conn) i last (record { is = tt; spares = λ sink. tt; gives = refl }, sweep-plain) refl h
 event-goes w (Bytes conn bytes) i last admitted h =
     plain-rests w (Bytes conn bytes) i last
@@ -82,37 +88,29 @@ event-goes w (Turn sink frames n) i last admitted h =
     subst (GoesOnIn (world_after w (Turn sink frames n)) i last) (sym (stretches-at sink (settled_in (slice_get w.mixers sink) frames (messages_taken w sink n) i)))
     (turn-goes w sink frames n i last (slice_get w.mixers sink) refl admitted h)
 event-goes w (Collect sink n) i last admitted h = rests (world_after w (Collect sink n)) i last (collect-goes w sink n i last (slice_get w.mixers sink) refl admitted h)
-
-failing-goes : (w : World) (sink i : ℕ) (last : Option Stretch) → sink < length w.mixers → HoldsIn w i last → HoldsIn (done w (fails sink)) i last
-failing-goes w sink i last below h =
-    let there = there-at w.mixers sink below in
-    subst (λ o. Holds w.core (change_at w.mixers sink o set_to_fail) i last) (sym there.1) (fail-holds w.core w.mixers sink i last there.0 there.1 h)
-
-doing-goes : (w : World) (d : Doing) (i : ℕ) (last : Option Stretch) → CanBeDone w d → HoldsIn w i last → GoesOnIn (done w d) i last (stretches_of (settled_by w d i))
-doing-goes w (happens e) i last can h = event-goes w e i last can h
-doing-goes w (fails sink) i last can h = rests (done w (fails sink)) i last (failing-goes w sink i last can h)
+event-goes w (Stop sink) i last admitted h = rests (world_after w (Stop sink)) i last (stop-goes w sink i last (slice_get w.mixers sink.0) refl admitted h)
 
 -- ---- a run
 
-joined-from : (w : World) (doings : List Doing) (i : ℕ) (last : Option Stretch) → CanAllBeDone w doings → HoldsIn w i last → JoinsOn last (stretches_of (track_by w doings i))
+joined-from : (w : World) (events : List Event) (i : ℕ) (last : Option Stretch) → AreAdmitted w events → HoldsIn w i last → JoinsOn last (stretches_of (track_by w events i))
 joined-from w [] i None can h = tt
 joined-from w [] i (Some x) can h = tt
-joined-from w (d ∷ doings) i last can h =
-    let on : GoesOnIn (done w d) i last (stretches_of (settled_by w d i)) = doing-goes w d i last can.0 h in
-    subst (JoinsOn last) (sym (map_join (settled_by w d i) (track_by (done w d) doings i)))
-    (on.joins (stretches_of (track_by (done w d) doings i)) (joined-from (done w d) doings i (last_of last (stretches_of (settled_by w d i))) can.1 on.holds))
+joined-from w (e ∷ events) i last can h =
+    let on : GoesOnIn (world_after w e) i last (stretches_of (settled_by w e i)) = event-goes w e i last can.0 h in
+    subst (JoinsOn last) (sym (map_join (settled_by w e i) (track_by (world_after w e) events i)))
+    (on.joins (stretches_of (track_by (world_after w e) events i)) (joined-from (world_after w e) events i (last_of last (stretches_of (settled_by w e i))) can.1 on.holds))
 
 last-join : (last : Option Stretch) (xs ys : List Stretch) → last_of last (xs ++ ys) ≡ last_of (last_of last xs) ys
 last-join last [] ys = refl
 last-join last (x ∷ xs) ys = last-join (Some x) xs ys
 
-holds-over : (w : World) (doings : List Doing) (i : ℕ) (last : Option Stretch) → CanAllBeDone w doings → HoldsIn w i last → HoldsIn (done_all w doings) i (last_of last (stretches_of (track_by w doings i)))
-holds-over w [] i last can h = h
-holds-over w (d ∷ doings) i last can h =
-    let first : List Stretch = stretches_of (settled_by w d i) in
-    subst (HoldsIn (done_all (done w d) doings) i)
-    (sym (ap (last_of last) (map_join (settled_by w d i) (track_by (done w d) doings i)) ∙ last-join last first (stretches_of (track_by (done w d) doings i))))
-    (holds-over (done w d) doings i (last_of last first) can.1 (GoesOn.holds (doing-goes w d i last can.0 h)))
+holds-by : (w : World) (events : List Event) (i : ℕ) (last : Option Stretch) → AreAdmitted w events → HoldsIn w i last → HoldsIn (world_by w events) i (last_of last (stretches_of (track_by w events i)))
+holds-by w [] i last can h = h
+holds-by w (e ∷ events) i last can h =
+    let first : List Stretch = stretches_of (settled_by w e i) in
+    subst (HoldsIn (world_by (world_after w e) events) i)
+    (sym (ap (last_of last) (map_join (settled_by w e i) (track_by (world_after w e) events i)) ∙ last-join last first (stretches_of (track_by (world_after w e) events i))))
+    (holds-by (world_after w e) events i (last_of last first) can.1 (GoesOn.holds (event-goes w e i last can.0 h)))
 
 -- ---- before the first event
 
@@ -131,7 +129,7 @@ none-ready-at i (s ∷ sinks) = (record { stays = tt; gives = tt }, none-ready-a
 one-at-most : (i made : ℕ) → unborn i made ≤ 1
 one-at-most i made = cond_both (nat_lt i made) 0 1 (λ n. n ≤ 1) (λ e. omega arith) (λ e. omega arith)
 
-holds-first : (header : Header) (i : ℕ) → IsHeader header → HoldsIn (new_world header) i None
+pub holds-first : (header : Header) (i : ℕ) → IsHeader header → HoldsIn (new_world header) i None
 holds-first header i h = record {
   consistent = consistent-first header h;
   stands = record {
@@ -142,12 +140,12 @@ holds-first header i h = record {
   };
 }
 
-pub joined : (header : Header) (doings : List Doing) (i : ℕ) → IsHeader header → CanAllBeDone (new_world header) doings → IsJoined (stretches_of (track_by (new_world header) doings i))
-joined header doings i h can = joined-from (new_world header) doings i None can (holds-first header i h)
+pub joined : (header : Header) (events : List Event) (i : ℕ) → IsHeader header → AreAdmitted (new_world header) events → IsJoined (stretches_of (track_by (new_world header) events i))
+joined header events i h can = joined-from (new_world header) events i None can (holds-first header i h)
 
-pub rising : (header : Header) (doings : List Doing) (i : ℕ) → IsHeader header → CanAllBeDone (new_world header) doings → Rise (indices_of_all (stretches_of (track_by (new_world header) doings i)))
-rising header doings i h can = joined_rise (stretches_of (track_by (new_world header) doings i)) (joined header doings i h can)
+pub rising : (header : Header) (events : List Event) (i : ℕ) → IsHeader header → AreAdmitted (new_world header) events → Rise (indices_of_all (stretches_of (track_by (new_world header) events i)))
+rising header events i h can = joined_rise (stretches_of (track_by (new_world header) events i)) (joined header events i h can)
 
-pub stands : (header : Header) (doings : List Doing) (i : ℕ) → IsHeader header → CanAllBeDone (new_world header) doings
-    → Stands (done_all (new_world header) doings).core (done_all (new_world header) doings).mixers i (last_of None (stretches_of (track_by (new_world header) doings i)))
-stands header doings i h can = Holds.stands (holds-over (new_world header) doings i None can (holds-first header i h))
+pub stands : (header : Header) (events : List Event) (i : ℕ) → IsHeader header → AreAdmitted (new_world header) events
+    → Stands (world_by (new_world header) events).core (world_by (new_world header) events).mixers i (last_of None (stretches_of (track_by (new_world header) events i)))
+stands header events i h can = Holds.stands (holds-by (new_world header) events i None can (holds-first header i h))

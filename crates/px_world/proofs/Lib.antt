@@ -12,7 +12,7 @@ pub mod Consistent
 pub mod Played
 pub mod Shapes
 pub mod Going
-pub mod Doing
+pub mod Hearing
 pub mod Sounding
 pub mod Standings
 pub mod Beginning
@@ -24,3 +24,5 @@ pub mod Places
 pub mod Moving
 pub mod Turning
 pub mod Joining
+pub mod Stopping
+pub mod Sweeping

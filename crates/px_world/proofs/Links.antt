@@ -7,7 +7,7 @@ use Rattle.std.proofs.lemmas.Option.{none-some, slice_get_past}
 use Rattle.std.proofs.lemmas.List.Folds.{find_at}
 use Rattle.px_types.specs.declared.ids.ConnId.{ConnId}
 use Rattle.px_session.specs.declared.event.Event.{Event}
-use Rattle.px_session.specs.declared.event.Event.TheVariants.{Connect, Bytes, Close, Cut, Turn, Collect}
+use Rattle.px_session.specs.declared.event.Event.TheVariants.{Connect, Bytes, Close, Cut, Turn, Collect, Stop}
 use Rattle.px_world.specs.World.{World, Link, is_of, link_of}
 use Rattle.px_world.specs.declared.fault.WorldFault.TheVariants.{Live}
 use Rattle.px_world.specs.Admission.{if_new, refusal_of}
@@ -114,6 +114,7 @@ distinct-after w (Close conn) admitted distinct = distinct-close conn w.links di
 distinct-after w (Cut conn) admitted distinct = distinct
 distinct-after w (Turn sink frames n) admitted distinct = distinct
 distinct-after w (Collect sink n) admitted distinct = distinct
+distinct-after w (Stop sink) admitted distinct = distinct
 
 -- ---- the door at a place
 

@@ -14,15 +14,14 @@ use Rattle.px_core.specs.Parcels.{Brought, given_by, given_in, Takes}
 use Rattle.px_core.specs.Step.{Step, sweep, notice, stepped_by}
 use Rattle.px_core.proofs.ParcelLaws.{AreWhole, steps_carry}
 use Rattle.px_world.specs.World.{Mixer}
-use Rattle.px_world.specs.Event.{mixer_collected}
+use Rattle.px_world.specs.Event.{mixer_collected, set_to_fail}
 use Rattle.px_world.specs.Consistency.{HasStream, GivesStream, AreConsistent}
-use Rattle.px_world.specs.Doing.{set_to_fail}
 use Rattle.px_world.specs.Whereabouts.{MovesReady, times, given_up, places_at, places, IsReadyAt, Stands}
 use Rattle.px_world.proofs.Beginning.{fail-notices}
 use Rattle.px_world.proofs.Consistent.{consistent-steps, consistent-notices}
 use Rattle.px_world.proofs.Giving.{take_gives, drop_gives}
 use Rattle.px_world.proofs.Sounding.{notices-are, notices-take, notices-spare}
-use Rattle.px_world.proofs.Tracks.{fail-sink}
+use Rattle.px_world.proofs.Histories.{fail-sink}
 use Rattle.px_world.proofs.Bodies.{IsPlain, ArePlain}
 use Rattle.px_world.proofs.Coming.{steps-within}
 use Rattle.px_world.proofs.Places.{set-all, get-all, all-left, all-right, there-below, there-at, places-set, collected-places, collected-gives, collected-ready}
@@ -46,7 +45,7 @@ stands-steps core mixers later steps i last consistent is takes fewer each h =
       each = each;
     }
 
-plain-are : (steps : List (Step Stream)) → ArePlain steps → AllByRecursion IsStep steps
+pub plain-are : (steps : List (Step Stream)) → ArePlain steps → AllByRecursion IsStep steps
 plain-are [] h = tt
 plain-are (s ∷ steps) h = (IsPlain.is h.0, plain-are steps h.1)
 

@@ -1,6 +1,6 @@
 -- A turn whose device was set to consume so many frames.
-use Rattle.std.proofs.Common.{◌≡◌, ℕ, ◌-◌, ◌≤◌, min, List, [], ◌++◌, Bool, true, false, Option, Some, refl, ap, sym, ◌∙◌, arith}
-use Rattle.std.specs.Prelude.{IsFalse, cond, ◌||◌, length}
+use Rattle.std.proofs.Common.{◌≡◌, ℕ, ◌-◌, ◌≤◌, min, List, [], ◌++◌, Bool, true, false, not, Option, None, Some, refl, ap, sym, ◌∙◌, arith}
+use Rattle.std.specs.Prelude.{IsFalse, cond, ◌&&◌, ◌||◌, length}
 use Rattle.std.specs.List.{concat}
 use Rattle.std.proofs.lemmas.Bool.{cond-false}
 use Rattle.std.proofs.lemmas.List.{length-take-le}
@@ -14,7 +14,7 @@ use Rattle.px_model.specs.Turn.{turned, turn_notices, played_by}
 use Rattle.px_lane.specs.Lane.{IsAttached}
 use Rattle.px_stream.specs.Samples.{samples}
 use Rattle.px_lane.specs.Turned.{Plays}
-use Rattle.px_world.specs.Event.{is_to_stop, mixer_stopped, mixer_played, mixer_turned, played_of}
+use Rattle.px_world.specs.Event.{is_to_stop, mixer_stopped, mixer_played, mixer_turned, played_of, is_stopping, stopped_of}
 use Rattle.px_world.specs.World.{Mixer}
 
 consumes : (b : Bool) (set waiting n : ℕ) → Consumes (Some (next_of b set)) waiting n → (b ≡ false) × (n ≡ min set waiting)
@@ -75,3 +75,12 @@ played-same m frames going = cond-false (is_to_stop m) [] (played_by m.sink fram
 
 pub played-count : (sink : Sink) (frames : ℕ) → IsSink sink → frames ≤ sink.filled - sink.consumed → length (played_by sink frames) ≡ frames
 played-count sink frames consistent there = length-take-le frames sink.buffer (omega (arith, there, consistent.buffer_full))
+
+-- ---- whether the turn stops the sink
+
+unstopping : (a b : Bool) → (a || b) ≡ false → (not a && b) ≡ false
+unstopping true b e = refl
+unstopping false b e = e
+
+pub goes-on : (m : Mixer) (messages : List (Message Stream)) → is_to_stop m ≡ false → stopped_of (Some m) messages ≡ None
+goes-on m messages going = cond-false (is_stopping m) (Some (mixer_stopped m messages).sink.filled) None (unstopping m.sink.stopped m.failing going)

@@ -22,8 +22,8 @@ use Rattle.px_world.specs.declared.fault.WorldFault.TheVariants.{Live, NotLive, 
 use Rattle.px_world.specs.declared.outcome.Outcome.{Outcome}
 use Rattle.px_world.specs.World.{World, Mixer}
 use Rattle.px_world.specs.Admission.{LAST_FILLED, too_many, or_else, refusal_of, turn_refusal, collect_refusal}
-use Rattle.px_world.specs.Event.{notices_of, change_at, mixer_turned, mixer_collected, played_of}
-use Rattle.px_world.specs.Doing.{Unless, Plays}
+use Rattle.px_world.specs.Event.{notices_of, change_at, mixer_turned, mixer_collected, played_of, stopped_of}
+use Rattle.px_world.specs.Parts.{Unless, Plays}
 use Rattle.px_world.specs.Consistency.{HasStream, GivesStream, AreConsistent}
 use Rattle.px_world.proofs.Giving.{take_gives, drop_gives}
 use Rattle.px_world.proofs.Consistent.{consistent-steps, consistent-turn, consistent-notices, turn-messages}
@@ -148,14 +148,15 @@ module _ (w : World) (core : State Stream) (ms : List Mixer) (same_core : w.core
         → after ≡ stepped_by Stream.spec core (map (λ (n : Notice Stream). notice (record { 0 = k }) (notice_for n)) (take count m.notices) ++ sweep ∷ [])
         → mixers ≡ change_at ms k (slice_get ms k) (λ x. mixer_collected x count)
         → outcome.effects ≡ effects_by Stream.spec core (map (λ (n : Notice Stream). notice (record { 0 = k }) (notice_for n)) (take count m.notices) ++ sweep ∷ [])
-        → outcome.frames ≡ 0 → outcome.played ≡ [] → Plays core after mixers w (Collect k count) outcome
-    collects after mixers count outcome few e mixed caused counted bytes = record {
+        → outcome.frames ≡ 0 → outcome.played ≡ [] → outcome.stopped ≡ None → Plays core after mixers w (Collect k count) outcome
+    collects after mixers count outcome few e mixed caused counted bytes stopped = record {
       admitted = ap (λ o. collect_refusal o count) here ∙ enough count (length m.notices) few;
       core = e ∙ ap (λ o. stepped_by Stream.spec core (map (λ (n : Notice Stream). notice (record { 0 = k }) (notice_for n)) (take count (notices_of o)) ++ sweep ∷ [])) (sym here);
       mixed = mixed ∙ ap (λ l. change_at l k (slice_get l k) (λ x. mixer_collected x count)) (sym same_mixers);
       caused = caused ∙ ap (λ o. effects_by Stream.spec core (map (λ (n : Notice Stream). notice (record { 0 = k }) (notice_for n)) (take count (notices_of o)) ++ sweep ∷ [])) (sym here);
       counted = counted;
       bytes = bytes;
+      stopped = stopped;
     }
 
     pub plays : (after : State Stream) (mixers : List Mixer) (frames count : ℕ) (outcome : Outcome)
@@ -163,8 +164,10 @@ module _ (w : World) (core : State Stream) (ms : List Mixer) (same_core : w.core
         → after ≡ stepped_by Stream.spec core (replicate count (out (record { 0 = k })) ++ sweep ∷ [])
         → mixers ≡ change_at ms k (slice_get ms k) (λ x. mixer_turned x frames (map (message_of (λ p. p)) (take count (waiting_for core (record { 0 = k })))))
         → outcome.effects ≡ effects_by Stream.spec core (replicate count (out (record { 0 = k })) ++ sweep ∷ [])
-        → outcome.frames ≡ length (played_of (Some m) frames) → outcome.played ≡ concat (played_of (Some m) frames) → Plays core after mixers w (Turn k frames count) outcome
-    plays after mixers frames count outcome goes e mixed caused counted bytes = record {
+        → outcome.frames ≡ length (played_of (Some m) frames) → outcome.played ≡ concat (played_of (Some m) frames)
+        → outcome.stopped ≡ stopped_of (Some m) (map (message_of (λ p. p)) (take count (waiting_for core (record { 0 = k }))))
+        → Plays core after mixers w (Turn k frames count) outcome
+    plays after mixers frames count outcome goes e mixed caused counted bytes stopped = record {
       admitted = turn-refusal frames count ∙ goes;
       core = e;
       mixed = mixed
@@ -173,6 +176,9 @@ module _ (w : World) (core : State Stream) (ms : List Mixer) (same_core : w.core
       caused = caused;
       counted = counted ∙ ap (λ o. length (played_of o frames)) (sym here);
       bytes = bytes ∙ ap (λ o. concat (played_of o frames)) (sym here);
+      stopped = stopped
+          ∙ ap (λ s. stopped_of (Some m) (map (message_of (λ p. p)) (take count (waiting_for s (record { 0 = k }))))) (sym same_core)
+          ∙ ap (λ o. stopped_of o (map (message_of (λ p. p)) (take count (waiting_for w.core (record { 0 = k }))))) (sym here);
     }
 
 -- ---- what is kept

@@ -1,5 +1,5 @@
 -- An event that is done leaves a world that stands for the world after it.
-use Rattle.std.proofs.Common.{◌≡◌, ℕ, List, [], length, Some, Result, Ok, Err, ap, sym, subst, ◌∙◌}
+use Rattle.std.proofs.Common.{◌≡◌, ℕ, List, [], length, None, Some, Result, Ok, Err, ap, sym, subst, ◌∙◌}
 use Rattle.std.specs.Prelude.{OnOk}
 use Rattle.std.specs.List.{concat, slice_get}
 use Rattle.px_session.specs.declared.event.Event.{Event}
@@ -13,32 +13,33 @@ use Rattle.px_state.specs.State.{State}
 use Rattle.px_world.specs.declared.doors.Door.{Door}
 use Rattle.px_world.specs.World.{World, Mixer}
 use Rattle.px_world.specs.Admission.{refusal_of}
-use Rattle.px_world.specs.Event.{all_steps, links_after, mixers_after, change_at, frames_played}
+use Rattle.px_world.specs.Event.{all_steps, links_after, mixers_after, change_at, set_to_fail, world_stopping, frames_played, stopped_by}
 use Rattle.px_world.specs.Running.{Running, Open, StandsFor}
-use Rattle.px_world.specs.Doing.{Unless, Does, Plays, HasNoSound, IsSilent, Runs, Answered, IsRefused, set_to_fail, world_stopping}
+use Rattle.px_world.specs.Parts.{Unless, Does, Plays, HasNoSound, IsSilent, Runs, Answered, IsRefused}
 use Rattle.px_world.specs.Consistency.{AreConsistent}
 use Rattle.px_world.proofs.Standing.{stands-after}
 
 module _ (before after : Running) (w : World) (e : Event) (s : StandsFor before w) where
   done-connection : (effects : List Effect) (outcome : Outcome) → HasNoSound effects outcome → Does before.core after.core after.doors w e effects
-      → after.mixers ≡ before.mixers → mixers_after w e ≡ w.mixers → frames_played w e ≡ [] → Runs after w e outcome
-  done-connection effects outcome silent d same unchanged soundless = record {
+      → after.mixers ≡ before.mixers → mixers_after w e ≡ w.mixers → frames_played w e ≡ [] → stopped_by w e ≡ None → Runs after w e outcome
+  done-connection effects outcome silent d same unchanged soundless going = record {
     done = record {
       admitted = d.admitted;
       effects = silent.caused ∙ d.caused ∙ ap (λ c. effects_by Stream.spec c (all_steps w e)) s.core;
       frames = silent.counted ∙ sym (ap length soundless);
       played = silent.bytes ∙ sym (ap concat soundless);
+      stopped = silent.stopped ∙ sym going;
     };
     stands = stands-after before after w e s d.admitted d.core d.opened (same ∙ s.mixers ∙ sym unchanged);
   }
 
   -- an event of a connection
   pub runs-connection : (given : Result (List Effect) WorldFault) (result : Result Outcome WorldFault) → IsSilent given result → Answered given (Does before.core after.core after.doors w e) (IsRefused w e)
-      → after.mixers ≡ before.mixers → mixers_after w e ≡ w.mixers → frames_played w e ≡ [] → Answered result (Runs after w e) (IsRefused w e)
-  runs-connection (Ok effects) (Ok outcome) silent d same unchanged soundless = done-connection effects outcome silent d same unchanged soundless
-  runs-connection (Ok effects) (Err fault) silent d same unchanged soundless = absurd silent
-  runs-connection (Err fault) (Ok outcome) silent d same unchanged soundless = absurd silent
-  runs-connection (Err fault) (Err other) silent d same unchanged soundless = subst (λ f. Unless f (refusal_of w e ≡ Some f)) (sym silent) d
+      → after.mixers ≡ before.mixers → mixers_after w e ≡ w.mixers → frames_played w e ≡ [] → stopped_by w e ≡ None → Answered result (Runs after w e) (IsRefused w e)
+  runs-connection (Ok effects) (Ok outcome) silent d same unchanged soundless going = done-connection effects outcome silent d same unchanged soundless going
+  runs-connection (Ok effects) (Err fault) silent d same unchanged soundless going = absurd silent
+  runs-connection (Err fault) (Ok outcome) silent d same unchanged soundless going = absurd silent
+  runs-connection (Err fault) (Err other) silent d same unchanged soundless going = subst (λ f. Unless f (refusal_of w e ≡ Some f)) (sym silent) d
 
   done-sink : (outcome : Outcome) → Plays before.core after.core after.mixers w e outcome → after.doors ≡ before.doors → links_after w.links e ≡ w.links → Runs after w e outcome
   done-sink outcome p same unchanged = record {
@@ -47,6 +48,7 @@ module _ (before after : Running) (w : World) (e : Event) (s : StandsFor before 
       effects = p.caused ∙ ap (λ c. effects_by Stream.spec c (all_steps w e)) s.core;
       frames = p.counted;
       played = p.bytes;
+      stopped = p.stopped;
     };
     stands = stands-after before after w e s p.admitted p.core
         (subst (Open after.doors) (sym unchanged) (subst (λ doors. Open doors w.links) (sym same) s.doors)) p.mixed;

@@ -71,7 +71,7 @@ all-open-ready i last (m ∷ ms) h = (opens-ready i last m h.0, all-open-ready i
 abbrev outs_of : ℕ → SinkId → List (Step Stream)
 outs_of n sink = replicate n (out sink)
 
-outs-are : (n : ℕ) (sink : SinkId) → AllByRecursion IsStep (outs_of n sink)
+pub outs-are : (n : ℕ) (sink : SinkId) → AllByRecursion (IsStep {P = Stream}) (replicate n (out sink))
 outs-are zero sink = tt
 outs-are (suc n) sink = (tt, outs-are n sink)
 
@@ -195,7 +195,7 @@ joins-one : (last : Option Stretch) (x : Stretch) (track : List Stretch) → Res
 joins-one None x track r j = j
 joins-one (Some y) x track r j = (record { joined = r.0; rising = r.1 }, j)
 
--- what a doing settles, and where it leaves the stream
+-- what an event settles, and where it leaves the stream
 pub record GoesOn (core : State Stream) (mixers : List Mixer) (i : ℕ) (last : Option Stretch) (track : List Stretch) : Type 0 where
   pub holds : Holds core mixers i (last_of last track)
   pub joins : (later : List Stretch) → JoinsOn (last_of last track) later → JoinsOn last (track ++ later)

@@ -3,7 +3,7 @@
 use Rattle.std.specs.Prelude.{ℕ, ◌-◌, ◌^◌, cond, nat_lt, length, Option, None, Some}
 use Rattle.std.specs.List.{slice_get}
 use Rattle.px_session.specs.declared.event.Event.{Event}
-use Rattle.px_session.specs.declared.event.Event.TheVariants.{Connect, Bytes, Close, Cut, Turn, Collect}
+use Rattle.px_session.specs.declared.event.Event.TheVariants.{Connect, Bytes, Close, Cut, Turn, Collect, Stop}
 use Rattle.px_state.specs.Out.{waiting_for}
 use Rattle.px_world.specs.declared.fault.WorldFault.{WorldFault}
 use Rattle.px_world.specs.declared.fault.WorldFault.TheVariants.{Live, NotLive, NoSink, Worn, TooMany}
@@ -39,6 +39,10 @@ abbrev pub collect_refusal : Option Mixer → ℕ → Option WorldFault
 collect_refusal None take = Some NoSink
 collect_refusal (Some m) take = too_many take (length m.notices)
 
+abbrev pub stop_refusal : Option Mixer → Option WorldFault
+stop_refusal None = Some NoSink
+stop_refusal (Some m) = None
+
 -- why the world doesn't admit an event, if it doesn't
 abbrev pub refusal_of : World → Event → Option WorldFault
 refusal_of w (Connect conn) = if_new (link_of w.links conn)
@@ -47,3 +51,4 @@ refusal_of w (Close conn) = if_named (link_of w.links conn)
 refusal_of w (Cut conn) = if_named (link_of w.links conn)
 refusal_of w (Turn sink frames take) = turn_refusal (slice_get w.mixers sink) frames take (length (waiting_for w.core (record { 0 = sink })))
 refusal_of w (Collect sink take) = collect_refusal (slice_get w.mixers sink) take
+refusal_of w (Stop sink) = stop_refusal (slice_get w.mixers sink.0)

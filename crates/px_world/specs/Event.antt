@@ -1,12 +1,12 @@
 -- What an event does to a world: a list of steps of the core that ends with a sweep, and at most one turn of a sink.
-use Rattle.std.specs.Prelude.{ℕ, Bool, false, cond, ◌||◌, List, [], ◌∷◌, ◌++◌, map, filter, not, length, take, drop, replicate, set, Option, None, Some}
+use Rattle.std.specs.Prelude.{ℕ, Bool, true, false, cond, ◌&&◌, ◌||◌, List, [], ◌∷◌, ◌++◌, map, filter, not, length, take, drop, replicate, set, Option, None, Some}
 use Rattle.std.specs.List.{slice_get}
 use Rattle.px_types.specs.declared.ids.ConnId.{ConnId}
 use Rattle.px_frame.specs.declared.frame.Frame.{Frame}
 use Rattle.px_frame.specs.Reading.{Ending, Unfinished, Broken}
 use Rattle.px_frame.specs.Meaning.{frames_in, ending_in}
 use Rattle.px_session.specs.declared.event.Event.{Event}
-use Rattle.px_session.specs.declared.event.Event.TheVariants.{Connect, Bytes, Close, Cut, Turn, Collect}
+use Rattle.px_session.specs.declared.event.Event.TheVariants.{Connect, Bytes, Close, Cut, Turn, Collect, Stop}
 use Rattle.px_model.specs.Stream.{Stream}
 use Rattle.px_model.specs.Message.{Message}
 use Rattle.px_model.specs.Turn.{turned, turn_notices, stopped_turn, stopped_notices, played_by}
@@ -50,6 +50,7 @@ steps_of w (Cut conn) = cut conn ∷ []
 steps_of w (Turn sink frames take_messages) = replicate take_messages (out (record { 0 = sink }))
 steps_of w (Collect sink take_notices) =
     map (λ n. notice (record { 0 = sink }) (notice_for n)) (take take_notices (notices_of (slice_get w.mixers sink)))
+steps_of w (Stop sink) = []
 
 -- after each event the connections that have ended are swept away
 abbrev pub all_steps : World → Event → List (Step Stream)
@@ -67,6 +68,7 @@ links_after links (Close conn) = filter (λ link. not (is_of conn link)) links
 links_after links (Cut conn) = links
 links_after links (Turn sink frames take_messages) = links
 links_after links (Collect sink take_notices) = links
+links_after links (Stop sink) = links
 
 -- ---- the mixers
 
@@ -90,6 +92,10 @@ mixer_turned m frames messages = cond (is_to_stop m) (mixer_stopped m messages) 
 abbrev pub mixer_collected : Mixer → ℕ → Mixer
 mixer_collected m n = record m { notices = drop n m.notices }
 
+-- the sink's device will fail at the next turn, unless the sink is stopped
+abbrev pub set_to_fail : Mixer → Mixer
+set_to_fail m = cond m.sink.stopped m (record m { failing = true })
+
 abbrev pub change_at : List Mixer → ℕ → Option Mixer → (Mixer → Mixer) → List Mixer
 change_at mixers sink None change = mixers
 change_at mixers sink (Some m) change = set mixers sink (change m)
@@ -101,6 +107,11 @@ mixers_after w (Close conn) = w.mixers
 mixers_after w (Cut conn) = w.mixers
 mixers_after w (Turn sink frames n) = change_at w.mixers sink (slice_get w.mixers sink) (λ m. mixer_turned m frames (messages_taken w sink n))
 mixers_after w (Collect sink n) = change_at w.mixers sink (slice_get w.mixers sink) (λ m. mixer_collected m n)
+mixers_after w (Stop sink) = change_at w.mixers sink.0 (slice_get w.mixers sink.0) set_to_fail
+
+-- the world with a sink's device set to fail, and nothing else changed
+abbrev pub world_stopping : World → ℕ → World
+world_stopping w sink = record w { mixers = change_at w.mixers sink (slice_get w.mixers sink) set_to_fail }
 
 -- ---- the event
 
@@ -127,3 +138,23 @@ frames_played w (Close conn) = []
 frames_played w (Cut conn) = []
 frames_played w (Turn sink frames n) = played_of (slice_get w.mixers sink) frames
 frames_played w (Collect sink n) = []
+frames_played w (Stop sink) = []
+
+-- whether a turn is the one that stops the sink: its device fails, and it hasn't stopped before
+abbrev pub is_stopping : Mixer → Bool
+is_stopping m = not m.sink.stopped && m.failing
+
+-- the filled count after a turn of a sink that the turn stops, if it does
+abbrev pub stopped_of : Option Mixer → List (Message Stream) → Option ℕ
+stopped_of None messages = None
+stopped_of (Some m) messages = cond (is_stopping m) (Some (mixer_stopped m messages).sink.filled) None
+
+-- the filled count of the sink that an event stops, if it stops one
+abbrev pub stopped_by : World → Event → Option ℕ
+stopped_by w (Connect conn) = None
+stopped_by w (Bytes conn bytes) = None
+stopped_by w (Close conn) = None
+stopped_by w (Cut conn) = None
+stopped_by w (Turn sink frames n) = stopped_of (slice_get w.mixers sink) (messages_taken w sink n)
+stopped_by w (Collect sink n) = None
+stopped_by w (Stop sink) = None

@@ -4,7 +4,7 @@ use Rattle.std.specs.List.{slice_get}
 use Rattle.px_header.specs.declared.header.Header.{Header}
 use Rattle.px_header.specs.declared.header.SinkSpec.{SinkSpec}
 use Rattle.px_session.specs.declared.event.Event.{Event}
-use Rattle.px_session.specs.declared.event.Event.TheVariants.{Connect, Bytes, Close, Cut, Turn, Collect}
+use Rattle.px_session.specs.declared.event.Event.TheVariants.{Connect, Bytes, Close, Cut, Turn, Collect, Stop}
 use Rattle.px_msg.specs.View.{sample_spec}
 use Rattle.px_model.specs.Frame.{Frame}
 use Rattle.px_model.specs.Message.{Message}
@@ -28,6 +28,7 @@ entries_of w (Close conn) k = []
 entries_of w (Cut conn) k = []
 entries_of w (Turn sink frames n) k = cond (nat_eq sink k) (entry_of (slice_get w.mixers sink) frames (messages_taken w sink n)) []
 entries_of w (Collect sink n) k = []
+entries_of w (Stop sink) k = []
 
 -- the frames that an event plays on a sink
 abbrev pub played_on : World → Event → ℕ → List Frame
@@ -37,6 +38,7 @@ played_on w (Close conn) k = []
 played_on w (Cut conn) k = []
 played_on w (Turn sink frames n) k = cond (nat_eq sink k) (frames_played w (Turn sink frames n)) []
 played_on w (Collect sink n) k = []
+played_on w (Stop sink) k = []
 
 -- the history of a sink, and all frames that it plays, over the events of a run
 abbrev pub history_by : World → List Event → ℕ → List Entry

@@ -9,6 +9,6 @@ pub mod Worked
 pub mod Outcome
 pub mod Consistency
 pub mod Playing
-pub mod Doing
+pub mod Parts
 pub mod Continuity
 pub mod Whereabouts

@@ -1,16 +1,16 @@
--- What a replay writes: the records of each event's effects and of the frames that it played, in order, and then the end byte.
-use Rattle.std.specs.Prelude.{◌≡◌, ℕ, cond, nat_eq, List, [], ◌∷◌, ◌++◌, length, None}
+-- What a replay writes: the records of each event's effects and of the frames that it played, or of the sink that it stopped, in order, and then the end byte.
+use Rattle.std.specs.Prelude.{◌≡◌, ℕ, cond, nat_eq, List, [], ◌∷◌, ◌++◌, length, Option, None, Some}
 use Rattle.std.specs.List.{concat, flat_map}
 use Rattle.px_header.specs.declared.header.Header.{Header}
 use Rattle.px_session.specs.declared.event.Event.{Event}
-use Rattle.px_session.specs.declared.event.Event.TheVariants.{Connect, Bytes, Close, Cut, Turn, Collect}
-use Rattle.px_session.specs.Output.{sent_record, closed_record, played_record, ended_output}
+use Rattle.px_session.specs.declared.event.Event.TheVariants.{Connect, Bytes, Close, Cut, Turn, Collect, Stop}
+use Rattle.px_session.specs.Output.{sent_record, closed_record, played_record, stopped_record, ended_output}
 use Rattle.px_state.specs.declared.effect.Effect.{Effect}
 use Rattle.px_state.specs.declared.effect.Effect.TheVariants.{Sent, Closed}
 use Rattle.px_state.specs.Effect.{reason_code}
 use Rattle.px_world.specs.World.{World, new_world}
 use Rattle.px_world.specs.Admission.{refusal_of}
-use Rattle.px_world.specs.Event.{world_after, effects_after, frames_played}
+use Rattle.px_world.specs.Event.{world_after, effects_after, frames_played, stopped_by}
 
 -- ---- records
 
@@ -23,13 +23,19 @@ effect_record (Closed conn reason fault at) = closed_record conn.0 (reason_code 
 abbrev pub if_played : ℕ → List (List ℕ) → List ℕ
 if_played sink frames = cond (nat_eq (length frames) 0) [] (played_record sink (length frames) (concat frames))
 
+-- the record of a turn that stopped its sink, with the sink's filled count; else that of a turn that played these frames
+abbrev pub stopped_or_played : ℕ → Option ℕ → List (List ℕ) → List ℕ
+stopped_or_played sink None frames = if_played sink frames
+stopped_or_played sink (Some filled) frames = stopped_record sink filled
+
 abbrev pub turn_record : World → Event → List ℕ
 turn_record w (Connect conn) = []
 turn_record w (Bytes conn bytes) = []
 turn_record w (Close conn) = []
 turn_record w (Cut conn) = []
-turn_record w (Turn sink frames n) = if_played sink (frames_played w (Turn sink frames n))
+turn_record w (Turn sink frames n) = stopped_or_played sink (stopped_by w (Turn sink frames n)) (frames_played w (Turn sink frames n))
 turn_record w (Collect sink n) = []
+turn_record w (Stop sink) = []
 
 abbrev pub records_of : World → Event → List ℕ
 records_of w e = flat_map effect_record (effects_after w e) ++ turn_record w e

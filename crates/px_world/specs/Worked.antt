@@ -1,4 +1,5 @@
--- A session worked by hand: a client connects and breaks a rule while a sink plays silence. And the track of an input, over a run in which it moves and a sink fails.
+-- Sessions worked by hand: in one a client connects and breaks a rule while a sink plays silence, in one a sink stops. And the track of an input, over a run in
+-- which it moves and a sink stops.
 use Rattle.std.specs.Prelude.{ℕ, pos, true, false, List, [], ◌∷◌, ◌++◌, replicate}
 use Rattle.px_types.specs.declared.ids.ConnId.{ConnId}
 use Rattle.px_types.specs.declared.ids.InputId.{InputId}
@@ -6,7 +7,7 @@ use Rattle.px_sample.specs.declared.format.Format.TheVariants.{S16Le}
 use Rattle.px_header.specs.declared.header.Header.{Header}
 use Rattle.px_header.specs.declared.header.SinkSpec.{SinkSpec}
 use Rattle.px_session.specs.declared.event.Event.{Event}
-use Rattle.px_session.specs.declared.event.Event.TheVariants.{Connect, Bytes, Close, Turn, Collect}
+use Rattle.px_session.specs.declared.event.Event.TheVariants.{Connect, Bytes, Close, Turn, Collect, Stop}
 use Rattle.px_session.specs.Spelling.{word, end_byte}
 use Rattle.px_model.specs.declared.data.Attr.{Attr}
 use Rattle.px_model.specs.Stream.{Stream}
@@ -17,7 +18,7 @@ use Rattle.px_outcome.specs.declared.input.Way.TheVariants.{Coming}
 use Rattle.px_outcome.specs.declared.input.Standing.TheVariants.{Moving}
 use Rattle.px_state.specs.State.{new_state}
 use Rattle.px_world.specs.World.{World, new_world}
-use Rattle.px_world.specs.Continuity.{Doing, happens, fails, Settled, at_sink}
+use Rattle.px_world.specs.Continuity.{Settled, at_sink}
 
 -- one sink, "a": mono in 16 bits, with room for four frames in the device's buffer
 abbrev pub small_sink : SinkSpec
@@ -103,9 +104,9 @@ small_world = record (new_world two_sinks) {
 -- Two turns of the first sink: one takes the first two messages and fills the buffer, one plays two frames and takes the last. The core collects the
 -- notices: a request, that it plays, and the parcel. Two turns of the second sink: one takes the message that brings the stream, one plays two frames.
 -- Then its device fails
-abbrev pub small_doings : List Doing
-small_doings =
-    happens (Turn 0 0 2) ∷ happens (Turn 0 2 1) ∷ happens (Collect 0 3) ∷ happens (Turn 1 0 1) ∷ happens (Turn 1 2 0) ∷ fails 1 ∷ happens (Turn 1 0 0) ∷ []
+abbrev pub moving_events : List Event
+moving_events =
+    Turn 0 0 2 ∷ Turn 0 2 1 ∷ Collect 0 3 ∷ Turn 1 0 1 ∷ Turn 1 2 0 ∷ Stop (record { 0 = 1 }) ∷ Turn 1 0 0 ∷ []
 
 -- One frame past those played can't change, so in each turn that plays two the horizon goes on by three. The first sink settles 0 to 3, and the second the
 -- two that are left, 3 to 5, where the read index runs on to 6. There the last turn settles nothing more
@@ -115,3 +116,20 @@ small_track =
     ∷ at_sink 1 (record { from = pos 3; count = 2; ran_on = true })
     ∷ at_sink 1 (record { from = pos 6; count = 0; ran_on = false })
     ∷ []
+
+-- ---- a sink that stops
+
+-- one sink, "out": mono in 16 bits, whose device holds 100 frames, of which the first ten can't change
+abbrev pub guarded_sink : SinkSpec
+guarded_sink = record { name = 111 ∷ 117 ∷ 116 ∷ []; spec = record { format = S16Le; channels = 1; rate = 48000 }; map = 0 ∷ []; guard = 10; depth = 100 }
+
+abbrev pub stopping_header : Header
+stopping_header = record { cookie = replicate 256 0; sinks = guarded_sink ∷ [] }
+
+-- the first turn fills the buffer, and the second finds that the device fails
+abbrev pub stopping_events : List Event
+stopping_events = Turn 0 0 0 ∷ Stop (record { 0 = 0 }) ∷ Turn 0 0 0 ∷ []
+
+-- sink 0 has stopped, with the ten frames that couldn't change filled
+abbrev pub stopping_output : List ℕ
+stopping_output = (4 ∷ 0 ∷ replicate 7 0 ++ 10 ∷ []) ++ end_byte ∷ []

@@ -9,7 +9,7 @@ ghost use Rattle.px_world.specs.World.{World, Mixer};
 ghost use Rattle.px_world.specs.Running.{is_door, Open, AreDistinct};
 ghost use Rattle.px_world.specs.Consistency.{AreConsistent};
 ghost use Rattle.px_world.specs.declared.doors.Door.{Door};
-ghost use Rattle.px_world.specs.Doing.{Does, Answered, IsRefused};
+ghost use Rattle.px_world.specs.Parts.{Does, Answered, IsRefused};
 
 use crate::WorldFault;
 use crate::doors::{Door, add, drop_at, feed, place_of};

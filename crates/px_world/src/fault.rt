@@ -20,7 +20,7 @@ pub enum WorldFault {
     Worn,
     /// More frames, messages or notices are asked for than there are.
     #[error("too many, {asked} of {there}")]
-    TooMany { asked: u32, there: u32 },
+    TooMany { asked: u64, there: u64 },
     /// Memory ran out.
     #[error("out of memory")]
     NoMemory,

@@ -4,19 +4,22 @@ ghost use Rattle.std.specs.Prelude.{◌≡◌, ℕ, ◌<◌, List, [], ◌∷◌
 ghost use Rattle.std.specs.List.{slice_get};
 ghost use Rattle.px_header.specs.declared.header.Header.{Header};
 ghost use Rattle.px_header.specs.declared.header.SinkSpec.{SinkSpec};
+ghost use Rattle.px_types.specs.declared.ids.SinkId.{SinkId};
 ghost use Rattle.px_session.specs.declared.event.Event.{Event};
+ghost use Rattle.px_session.specs.declared.event.Event.TheVariants.{Stop};
+ghost use Rattle.px_state.specs.State.{marked_of};
 ghost use Rattle.px_model.specs.Deciding.{replay, replay_played, IsHistory};
 ghost use Rattle.px_stream.specs.Samples.{samples};
 ghost use Rattle.px_world.specs.World.{World, new_world};
 ghost use Rattle.px_world.specs.Admission.{refusal_of};
-ghost use Rattle.px_world.specs.Event.{world_after, effects_after};
+ghost use Rattle.px_world.specs.Event.{world_after, effects_after, world_stopping};
 ghost use Rattle.px_world.specs.Output.{world_by, records_of, records_by, effects_by_run, AreAdmitted, output_of};
-ghost use Rattle.px_world.specs.History.{history_by, played_by_run, begun, sink_at, IsDecidedIn, AreDecided};
+ghost use Rattle.px_world.specs.History.{history_by, played_by_run, begun, sink_at, AreDecided};
 ghost use Rattle.px_header.specs.HeaderRules.{IsHeader};
 ghost use Rattle.px_model.specs.Track.{IsJoined, Rise, indices_of_all, track_of};
-ghost use Rattle.px_world.specs.Continuity.{Doing, done_all, CanAllBeDone, track_by, stretches_of, stretches_at, history_over, played_over, all_happen};
+ghost use Rattle.px_world.specs.Continuity.{track_by, stretches_of, stretches_at};
 ghost use Rattle.px_world.specs.Whereabouts.{last_of, Stands};
-ghost use Rattle.px_world.specs.Worked.{small_header, small_events, small_output, small_world, small_doings, small_track};
+ghost use Rattle.px_world.specs.Worked.{small_header, small_events, small_output, small_world, moving_events, small_track, stopping_header, stopping_events, stopping_output};
 
 /// In a run of admitted events every frame that a sink plays is what its deciding turn made of it: the mix of the sink's streams after that turn.
 /// That turn is the last one of the sink whose horizon is at most the frame, and ends before the frame is played. Source: own.
@@ -25,8 +28,8 @@ pub fn played_frames_are_decided_by_a_turn()
         → AreDecided header events }
 {}
 
-/// The state of a sink after a run is the replay of the sink's history, and the frames that it plays are those of that replay. Where the events are
-/// admitted the history is a possible one, and the number of frames played is the number consumed. Source: own.
+/// The state of a sink after a run is the replay of the sink's history, and the frames that it plays are those of that replay, also where it stops. Where
+/// the events are admitted the history is a possible one, and the number of frames played is the number consumed. Source: own.
 pub fn sinks_replay_their_histories()
     ensures sinks { (header : Header) (events : List Event) (k : ℕ) (s : SinkSpec)
         → slice_get header.sinks k ≡ Some s
@@ -45,33 +48,6 @@ pub fn sinks_replay_their_histories()
         ≡ (replay samples (begun s) (history_by (new_world header) events k)).consumed }
 {}
 
-/// What holds of a run of events holds where sinks are made to fail between them: the state of a sink is the replay of its
-/// history, its frames are those of that replay, all that it consumed, and each is what its deciding turn made of it. A run
-/// of events is one in which no sink is made to fail. Source: own.
-pub fn sinks_replay_their_histories_where_they_fail()
-    ensures sinks { (header : Header) (doings : List Doing) (k : ℕ) (s : SinkSpec)
-        → slice_get header.sinks k ≡ Some s
-        → sink_at (done_all (new_world header) doings) k
-        ≡ Some (replay samples (begun s) (history_over (new_world header) doings k)) }
-    ensures played { (header : Header) (doings : List Doing) (k : ℕ) (s : SinkSpec)
-        → slice_get header.sinks k ≡ Some s
-        → played_over (new_world header) doings k
-        ≡ replay_played samples (begun s) (history_over (new_world header) doings k) }
-    ensures histories { (header : Header) (doings : List Doing) (k : ℕ) (s : SinkSpec)
-        → slice_get header.sinks k ≡ Some s → CanAllBeDone (new_world header) doings
-        → IsHistory samples (begun s) (history_over (new_world header) doings k) }
-    ensures all_consumed { (header : Header) (doings : List Doing) (k : ℕ) (s : SinkSpec)
-        → slice_get header.sinks k ≡ Some s → CanAllBeDone (new_world header) doings
-        → length (played_over (new_world header) doings k)
-        ≡ (replay samples (begun s) (history_over (new_world header) doings k)).consumed }
-    ensures decided { (header : Header) (doings : List Doing) (k : ℕ) (s : SinkSpec)
-        → slice_get header.sinks k ≡ Some s → CanAllBeDone (new_world header) doings
-        → (f : ℕ) → f < length (played_over (new_world header) doings k)
-        → IsDecidedIn (begun s) (history_over (new_world header) doings k) (played_over (new_world header) doings k) f }
-    ensures admitted { (w : World) (events : List Event) → AreAdmitted w events → CanAllBeDone w (all_happen events) }
-    ensures happened { (w : World) (events : List Event) → done_all w (all_happen events) ≡ world_by w events }
-{}
-
 /// A run proceeds event by event: the world, the output, the effects and the admission. Source: own.
 pub fn runs_go_on()
     ensures world { (w : World) (events : List Event) (e : Event)
@@ -84,27 +60,27 @@ pub fn runs_go_on()
         → refusal_of (world_by w events) e ≡ None → AreAdmitted w (events ++ e ∷ []) }
 {}
 
-/// Whatever is done to a world, the frames of an input that are settled as played are consecutive, over all sinks that it
-/// moves to: each stretch begins where the one before it ended, or past that where that one ran on without prebuffering. So
-/// its indices rise: none is settled twice. The stretches settled at a sink are those of the sink's own history, so no turn
-/// is left out. Afterwards the input's stream is at one place at most, and stands there where the last stretch ended, or
-/// past that where it ran on. A frame that a flush gives up is never settled, and a sink that stopped may not have played
-/// what it settled. Source: own.
+/// In a run of admitted events, also one in which sinks stop, the frames of an input that are settled as played are consecutive,
+/// over all sinks that it moves to: each stretch begins where the one before it ended, or past that where that one ran on
+/// without prebuffering. So its indices rise: none is settled twice. The stretches settled at a sink are those of the sink's
+/// own history, so no turn is left out. Afterwards the input's stream is at one place at most, and stands there where the last
+/// stretch ended, or past that where it ran on. A frame that a flush gives up is never settled, and a sink that stopped may not
+/// have played what it settled. Source: own.
 pub fn continuity()
-    ensures joined { (header : Header) (doings : List Doing) (i : ℕ) → IsHeader header
-        → CanAllBeDone (new_world header) doings
-        → IsJoined (stretches_of (track_by (new_world header) doings i)) }
-    ensures rising { (header : Header) (doings : List Doing) (i : ℕ) → IsHeader header
-        → CanAllBeDone (new_world header) doings
-        → Rise (indices_of_all (stretches_of (track_by (new_world header) doings i))) }
-    ensures whole { (header : Header) (doings : List Doing) (k i : ℕ) (s : SinkSpec)
+    ensures joined { (header : Header) (events : List Event) (i : ℕ) → IsHeader header
+        → AreAdmitted (new_world header) events
+        → IsJoined (stretches_of (track_by (new_world header) events i)) }
+    ensures rising { (header : Header) (events : List Event) (i : ℕ) → IsHeader header
+        → AreAdmitted (new_world header) events
+        → Rise (indices_of_all (stretches_of (track_by (new_world header) events i))) }
+    ensures whole { (header : Header) (events : List Event) (k i : ℕ) (s : SinkSpec)
         → slice_get header.sinks k ≡ Some s
-        → stretches_at k (track_by (new_world header) doings i)
-        ≡ track_of samples (begun s) (history_over (new_world header) doings k) i }
-    ensures stands { (header : Header) (doings : List Doing) (i : ℕ) → IsHeader header
-        → CanAllBeDone (new_world header) doings
-        → Stands (done_all (new_world header) doings).core (done_all (new_world header) doings).mixers i
-        (last_of None (stretches_of (track_by (new_world header) doings i))) }
+        → stretches_at k (track_by (new_world header) events i)
+        ≡ track_of samples (begun s) (history_by (new_world header) events k) i }
+    ensures stands { (header : Header) (events : List Event) (i : ℕ) → IsHeader header
+        → AreAdmitted (new_world header) events
+        → Stands (world_by (new_world header) events).core (world_by (new_world header) events).mixers i
+        (last_of None (stretches_of (track_by (new_world header) events i))) }
 {}
 
 /// Two runs, one after the other, are one run: its world, its output, its effects and its admission. Source: own.
@@ -121,11 +97,26 @@ pub fn runs_join()
         → AreAdmitted w earlier × AreAdmitted (world_by w earlier) later }
 {}
 
-/// The definitions give the output of a small session, and the track of an input over a small run, that were worked by hand.
+/// After each event of a run no connection waits to be swept away, and where none does an event `Stop` does what `World::stop`
+/// does, and nothing else: it has no effects. So a run with calls of `World::stop` between its events is a run of events.
 /// Source: own.
+pub fn stops_are_events()
+    ensures world { (w : World) (sink : SinkId) → marked_of w.core.connections ≡ []
+        → world_after w (Stop sink) ≡ world_stopping w sink.0 }
+    ensures effects { (w : World) (sink : SinkId) → marked_of w.core.connections ≡ []
+        → effects_after w (Stop sink) ≡ [] }
+    ensures swept { (header : Header) (events : List Event) → IsHeader header
+        → AreAdmitted (new_world header) events
+        → marked_of (world_by (new_world header) events).core.connections ≡ [] }
+{}
+
+/// The definitions give the output of two small sessions, one in which a sink stops, and the track of an input over a small
+/// run, that were worked by hand. Source: own.
 pub fn worked_session()
     ensures admitted { AreAdmitted (new_world small_header) small_events }
     ensures output { output_of small_header small_events ≡ small_output }
-    ensures done { CanAllBeDone small_world small_doings }
-    ensures track { track_by small_world small_doings 3 ≡ small_track }
+    ensures moves { AreAdmitted small_world moving_events }
+    ensures track { track_by small_world moving_events 3 ≡ small_track }
+    ensures stop_admitted { AreAdmitted (new_world stopping_header) stopping_events }
+    ensures stop_output { output_of stopping_header stopping_events ≡ stopping_output }
 {}

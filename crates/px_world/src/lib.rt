@@ -21,7 +21,7 @@ pub use fault::WorldFault;
 pub use frames::Frames;
 pub use law::{
     continuity, played_frames_are_decided_by_a_turn, runs_go_on, runs_join,
-    sinks_replay_their_histories, sinks_replay_their_histories_where_they_fail, worked_session,
+    sinks_replay_their_histories, stops_are_events, worked_session,
 };
 pub use outcome::Outcome;
 pub use world::World;

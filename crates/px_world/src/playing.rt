@@ -1,6 +1,6 @@
 //! A sink's mixer over its device in memory.
 
-ghost use Rattle.std.specs.Prelude.{◌≡◌, ◌<◌, ◌≤◌, ◌-◌, ◌^◌, List, [], length, IsFalse, IfOk, OnOk, MatchResult, Some};
+ghost use Rattle.std.specs.Prelude.{◌≡◌, ◌<◌, ◌≤◌, ◌-◌, ◌^◌, List, [], length, cond, true, IsFalse, IfOk, OnOk, MatchResult, None, Some};
 ghost use Rattle.px_ends.specs.MemoryDevice.{state_of};
 ghost use Rattle.px_lane.specs.Lane.{IsAttached};
 ghost use Rattle.px_lane.specs.Turned.{Turns, Refuses};
@@ -11,10 +11,10 @@ ghost use Rattle.px_sample.specs.Format.{frame_size_of};
 ghost use Rattle.px_model.specs.Stream.{Stream as Plain};
 ghost use Rattle.px_model.specs.Orderly.{IsOrderly};
 ghost use Rattle.px_model.specs.Sink.{IsSink as IsConsistentSink, specs_of};
-ghost use Rattle.px_world.specs.Event.{mixer_turned, played_of};
+ghost use Rattle.px_world.specs.Event.{mixer_turned, played_of, stopped_of};
 ghost use Rattle.px_world.specs.World.{new_mixer};
 ghost use Rattle.px_world.specs.Playing.{mixer_of, IsPlaying};
-ghost use Rattle.px_world.specs.Doing.{set_to_fail};
+ghost use Rattle.px_world.specs.Event.{set_to_fail};
 
 use crate::spares::Spares;
 use px_ends::{DeviceShape, MemDevice, Played};
@@ -32,13 +32,16 @@ use std::sync::ledger::{Blank, Ledger};
 pub(crate) struct Playing {
     pub lane: Lane<MemDevice>,
     pub notices: NoticeList,
+    // The sink has stopped.
+    pub stopped: bool,
 }
 
-/// What a device has consumed in a turn: `frames` frames, and their bytes.
+/// What a device has consumed in a turn: `frames` frames, and their bytes; and the filled count of a sink that the turn stopped.
 #[derive(Drop)]
 pub(crate) struct Sound {
     pub frames: u32,
     pub bytes: Played,
+    pub stopped: Option<u64>,
 }
 
 // The shape of a sink's device.
@@ -75,6 +78,14 @@ fn counted<T: Ledger>(
     lane.turn(alloc, messages, notices, blocks, &mut steps)
 }
 
+// `n` in 32 bits.
+fn in_32_bits(n: u64) -> u32
+    requires { n < 2 ^ 32 }
+    ensures { result ≡ n }
+{
+    n as u32
+}
+
 // No bytes.
 fn nothing(alloc: Global) -> Played
     ensures { result ≡ [] }
@@ -93,6 +104,7 @@ impl Playing {
         Ok(Playing {
             lane: Lane::new(alloc, sink, device)?,
             notices: NoticeList::new(alloc),
+            stopped: false,
         })
     }
 
@@ -100,7 +112,7 @@ impl Playing {
     pub fn turn(
         &mut self,
         alloc: Global,
-        frames: u32,
+        frames: u64,
         messages: &mut MsgList,
         blocks: &mut Spares,
     ) -> Mem<Sound>
@@ -113,8 +125,9 @@ impl Playing {
         ensures playing { OnOk result (IsPlaying self.new) }
         ensures frames { IfOk result (λ sound. sound.frames ≡ length (played_of (Some (mixer_of self.old)) frames)) }
         ensures bytes { IfOk result (λ sound. sound.bytes ≡ concat (played_of (Some (mixer_of self.old)) frames)) }
+        ensures stopped { IfOk result (λ sound. sound.stopped ≡ stopped_of (Some (mixer_of self.old)) messages.old.messages) }
     {
-        self.lane.device_mut().arm(frames)?;
+        self.lane.device_mut().arm(in_32_bits(frames))?;
         let Ok(turned) = counted::<Brand>(
             Blank::new(1),
             alloc,
@@ -127,12 +140,29 @@ impl Playing {
         };
         let bytes = self.lane.device_mut().take_played(alloc)?;
         match turned {
-            Turned::Played { frames, .. } => Ok(Sound { frames, bytes }),
+            Turned::Played { frames, .. } => Ok(Sound {
+                frames,
+                bytes,
+                stopped: None,
+            }),
             Turned::Stopped { .. } => Ok(Sound {
                 frames: 0,
                 bytes: nothing(alloc),
+                stopped: self.halt(),
             }),
         }
+    }
+
+    // Notes that the sink has stopped: its filled count, where that is new.
+    fn halt(&mut self) -> Option<u64>
+        ensures value { result ≡ cond self.old.stopped None (Some self.old.lane.sink.filled) }
+        ensures after { self.new ≡ record self.old { stopped = true } }
+    {
+        if self.stopped {
+            return None;
+        }
+        self.stopped = true;
+        Some(self.lane.filled())
     }
 
     /// Makes the device fail at the next turn.

@@ -6,12 +6,12 @@ ghost use Rattle.px_world.specs.World.{World};
 ghost use Rattle.px_world.specs.Running.{StandsFor};
 ghost use Rattle.px_world.specs.Playing.{mixer_of, IsPlaying};
 ghost use Rattle.px_world.specs.Consistency.{AreConsistent};
-ghost use Rattle.px_world.specs.Doing.{IsSilent, running_of, Answered, IsRefused, Runs};
+ghost use Rattle.px_world.specs.Parts.{IsSilent, running_of, Answered, IsRefused, Runs};
 
 use crate::connections::{bytes, close, connect, cut};
 use crate::doors::Door;
 use crate::playing::Playing;
-use crate::sinks::{collect, silence, turn};
+use crate::sinks::{collect, silence, stop, turn};
 use crate::spares::Spares;
 use crate::stepping::WorldCore;
 use crate::{Outcome, WorldFault};
@@ -19,7 +19,7 @@ use px_core::Effects;
 use px_session::Event;
 use std::alloc::Global;
 
-// The outcome of an event that plays nothing.
+// The outcome of an event of a connection, which plays nothing and stops no sink.
 fn silent(alloc: Global, done: Result<Effects, WorldFault>) -> Result<Outcome, WorldFault>
     ensures { IsSilent done result }
 {
@@ -28,6 +28,7 @@ fn silent(alloc: Global, done: Result<Effects, WorldFault>) -> Result<Outcome, W
             effects,
             played: silence(alloc),
             frames: 0,
+            stopped: None,
         }),
         Err(fault) => Err(fault),
     }
@@ -57,5 +58,6 @@ pub(crate) fn run(
         Event::Cut(conn) => silent(alloc, cut(core, doors, alloc, conn)),
         Event::Turn { sink, frames, take } => turn(core, mixers, alloc, sink, frames, take, spares),
         Event::Collect { sink, take } => collect(core, mixers, alloc, sink, take),
+        Event::Stop(sink) => stop(core, mixers, alloc, sink),
     }
 }

@@ -1,20 +1,21 @@
 //! What the events of a sink do to the core and to the sink's mixer.
 
 ghost use Rattle.std.specs.Prelude.{◌≡◌, ◌<◌, ◌≤◌, ◌-◌, ◌^◌, [], ◌∷◌, ◌++◌, map, take, drop, length, replicate, IfOk, OnOk, Some};
-ghost use Rattle.std.specs.List.{concat, AllByRecursion};
-ghost use Rattle.px_session.specs.declared.event.Event.TheVariants.{Turn, Collect};
+ghost use Rattle.std.specs.List.{concat, slice_get, AllByRecursion};
+ghost use Rattle.px_session.specs.declared.event.Event.TheVariants.{Turn, Collect, Stop};
 ghost use Rattle.px_model.specs.Stream.{Stream as Plain};
 ghost use Rattle.px_model.specs.Sink.{IsSink as IsConsistentSink};
 ghost use Rattle.px_model.specs.Turn.{AreFor};
 ghost use Rattle.px_msg.specs.View.{message_of, notice_for};
+ghost use Rattle.px_state.specs.State.{State};
 ghost use Rattle.px_state.specs.Out.{waiting_for};
 ghost use Rattle.px_core.specs.Step.{Step, stepped_by, effects_by};
 ghost use Rattle.px_world.specs.World.{World};
 ghost use Rattle.px_world.specs.Admission.{turn_refusal};
-ghost use Rattle.px_world.specs.Event.{mixer_turned, played_of};
+ghost use Rattle.px_world.specs.Event.{change_at, mixer_turned, played_of, set_to_fail, stopped_of};
 ghost use Rattle.px_world.specs.Playing.{mixer_of, IsPlaying};
 ghost use Rattle.px_world.specs.Consistency.{AreConsistent};
-ghost use Rattle.px_world.specs.Doing.{Answered, IsRefused, Plays};
+ghost use Rattle.px_world.specs.Parts.{Answered, IsRefused, Plays};
 
 use crate::playing::Playing;
 use crate::spares::Spares;
@@ -26,14 +27,6 @@ use px_lane::{MsgList, NoticeList};
 use px_types::limits::MAX_INDEX;
 use px_types::{Mem, SinkId};
 use std::alloc::Global;
-
-// `n` in 32 bits; it is below `bound`.
-fn in_32_bits(n: u64, bound: u32) -> u32
-    requires { n < bound }
-    ensures { result ≡ n }
-{
-    n as u32
-}
 
 /// No bytes. Takes no memory.
 pub(crate) fn silence(alloc: Global) -> Played
@@ -48,7 +41,7 @@ fn collect_from(
     notices: &mut NoticeList,
     alloc: Global,
     sink: SinkId,
-    count: u32,
+    count: u64,
 ) -> Mem<Effects>
     requires { count ≤ length notices.old.notices }
     ensures core { OnOk result (core.new.state ≡ stepped_by Plain.spec core.old.state (map (λ n. Step.notice sink (notice_for n)) (take count notices.old.notices) ++ Step.sweep ∷ [])) }
@@ -67,7 +60,7 @@ pub(crate) fn collect(
     mixers: &mut [Playing],
     alloc: Global,
     sink: u8,
-    count: u32,
+    count: u64,
 ) -> Result<Outcome, WorldFault>
     requires consistent { AreConsistent core.old.state (map mixer_of mixers.old) }
     requires playing { AllByRecursion IsPlaying mixers.old }
@@ -82,11 +75,10 @@ pub(crate) fn collect(
         return Err(WorldFault::NoSink);
     }
     let there = mixers[place].notices.len();
-    if there < count as usize {
-        let there = in_32_bits(there as u64, count);
+    if (there as u64) < count {
         return Err(WorldFault::TooMany {
             asked: count,
-            there,
+            there: there as u64,
         });
     }
     let effects = collect_from(core, &mut mixers[place].notices, alloc, SinkId(sink), count)?;
@@ -94,12 +86,53 @@ pub(crate) fn collect(
         effects,
         played: silence(alloc),
         frames: 0,
+        stopped: None,
+    })
+}
+
+/// Makes the device of the mixer at `place` fail at its next turn; a sink that is stopped already doesn't change. Takes no memory.
+pub(crate) fn stop_at(mixers: &mut [Playing], place: usize)
+    requires { place < length mixers.old }
+    ensures after { map mixer_of mixers.new ≡ change_at (map mixer_of mixers.old) place (slice_get (map mixer_of mixers.old) place) set_to_fail }
+    ensures consistent { (core : State Plain) → AreConsistent core (map mixer_of mixers.old) → AreConsistent core (map mixer_of mixers.new) }
+    ensures playing { AllByRecursion IsPlaying mixers.old → AllByRecursion IsPlaying mixers.new }
+{
+    mixers[place].stop();
+}
+
+/// A sink's device is made to fail at its next turn.
+pub(crate) fn stop(
+    core: &mut WorldCore,
+    mixers: &mut [Playing],
+    alloc: Global,
+    sink: SinkId,
+) -> Result<Outcome, WorldFault>
+    requires consistent { AreConsistent core.old.state (map mixer_of mixers.old) }
+    requires playing { AllByRecursion IsPlaying mixers.old }
+    ensures done { (w : World) → w.core ≡ core.old.state → w.mixers ≡ map mixer_of mixers.old
+        → Answered result (Plays core.old.state core.new.state (map mixer_of mixers.new) w (Stop sink)) (IsRefused w (Stop sink)) }
+    ensures still { Answered result (λ _. Unit {0}) (λ _. (core.new.state ≡ core.old.state) × (map mixer_of mixers.new ≡ map mixer_of mixers.old)) }
+    ensures consistent { Answered result (λ _. AreConsistent core.new.state (map mixer_of mixers.new)) (λ _. AreConsistent core.new.state (map mixer_of mixers.new)) }
+    ensures playing { Answered result (λ _. AllByRecursion IsPlaying mixers.new) (λ _. AllByRecursion IsPlaying mixers.new) }
+{
+    let place = sink.0 as usize;
+    if mixers.len() <= place {
+        return Err(WorldFault::NoSink);
+    }
+    stop_at(mixers, place);
+    let none = Effects::new(alloc);
+    let effects = swept(core, none)?;
+    Ok(Outcome {
+        effects,
+        played: silence(alloc),
+        frames: 0,
+        stopped: None,
     })
 }
 
 // Why a mixer refuses a turn with `count` of the `waiting` messages, if it does.
 #[tactic(auto, using(crate::proofs::Sounding::turn_worn, crate::proofs::Sounding::turn_dry, crate::proofs::Sounding::turn_short, crate::proofs::Sounding::turn_goes))]
-fn turn_fault(playing: &Playing, frames: u32, count: u32, waiting: usize) -> Option<WorldFault>
+fn turn_fault(playing: &Playing, frames: u64, count: u64, waiting: u64) -> Option<WorldFault>
     ensures { result ≡ turn_refusal (Some (mixer_of playing.now)) frames count waiting }
 {
     let filled = playing.lane.filled();
@@ -107,18 +140,16 @@ fn turn_fault(playing: &Playing, frames: u32, count: u32, waiting: usize) -> Opt
         return Some(WorldFault::Worn);
     }
     let there = filled.saturating_sub(playing.lane.consumed());
-    if there < frames as u64 {
-        let there = in_32_bits(there, frames);
+    if there < frames {
         return Some(WorldFault::TooMany {
             asked: frames,
             there,
         });
     }
-    if waiting < count as usize {
-        let there = in_32_bits(waiting as u64, count);
+    if waiting < count {
         return Some(WorldFault::TooMany {
             asked: count,
-            there,
+            there: waiting,
         });
     }
     None
@@ -130,8 +161,8 @@ fn turn_of(
     playing: &mut Playing,
     alloc: Global,
     sink: SinkId,
-    frames: u32,
-    count: u32,
+    frames: u64,
+    count: u64,
     spares: &mut Spares,
 ) -> Mem<Outcome>
     requires consistent { IsConsistentSink playing.old.lane.sink }
@@ -146,6 +177,7 @@ fn turn_of(
     ensures playing { OnOk result (IsPlaying playing.new) }
     ensures frames { IfOk result (λ outcome. outcome.frames ≡ length (played_of (Some (mixer_of playing.old)) frames)) }
     ensures played { IfOk result (λ outcome. outcome.played ≡ concat (played_of (Some (mixer_of playing.old)) frames)) }
+    ensures stopped { IfOk result (λ outcome. outcome.stopped ≡ stopped_of (Some (mixer_of playing.old)) (map (message_of (λ p. p)) (take count (waiting_for core.old.state sink)))) }
 {
     let mut messages = MsgList::new(alloc);
     take_messages(core, sink, count, &mut messages)?;
@@ -156,6 +188,7 @@ fn turn_of(
         effects,
         played: sound.bytes,
         frames: sound.frames,
+        stopped: sound.stopped,
     })
 }
 
@@ -165,8 +198,8 @@ pub(crate) fn turn(
     mixers: &mut [Playing],
     alloc: Global,
     sink: u8,
-    frames: u32,
-    count: u32,
+    frames: u64,
+    count: u64,
     spares: &mut Spares,
 ) -> Result<Outcome, WorldFault>
     requires consistent { AreConsistent core.old.state (map mixer_of mixers.old) }
@@ -182,7 +215,7 @@ pub(crate) fn turn(
         return Err(WorldFault::NoSink);
     }
     let waiting = core.outgoing(SinkId(sink));
-    match turn_fault(&mixers[place], frames, count, waiting) {
+    match turn_fault(&mixers[place], frames, count, waiting as u64) {
         Some(fault) => Err(fault),
         None => {
             let outcome = turn_of(

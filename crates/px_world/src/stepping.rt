@@ -103,7 +103,7 @@ pub(crate) fn take_given(
 pub(crate) fn take_messages(
     core: &mut WorldCore,
     sink: SinkId,
-    count: u32,
+    count: u64,
     messages: &mut MsgList,
 ) -> Mem<()>
     requires { count ≤ length (waiting_for core.old.state sink) }
@@ -142,7 +142,7 @@ fn take_notice(
 pub(crate) fn take_notices(
     core: &mut WorldCore,
     sink: SinkId,
-    count: u32,
+    count: u64,
     notices: &mut NoticeList,
     effects: &mut Effects,
 ) -> Mem<()>

@@ -8,21 +8,19 @@ ghost use Rattle.px_header.specs.declared.header.SinkSpec.{SinkSpec as Spec};
 ghost use Rattle.px_core.specs.Connecting.{version_of};
 ghost use Rattle.px_world.specs.World.{World as SpecWorld, new_mixer, new_world, link_of};
 ghost use Rattle.px_world.specs.Admission.{refusal_of};
-ghost use Rattle.px_world.specs.Event.{world_after, change_at};
+ghost use Rattle.px_world.specs.Event.{world_after, change_at, set_to_fail, world_stopping};
 ghost use Rattle.px_world.specs.Outcome.{IsOutcome};
 ghost use Rattle.px_world.specs.Frames.{frames_of};
 ghost use Rattle.px_world.specs.Running.{StandsFor};
 ghost use Rattle.px_world.specs.Playing.{mixer_of, IsPlaying};
-ghost use Rattle.px_model.specs.Stream.{Stream as Plain};
-ghost use Rattle.px_state.specs.State.{State};
-ghost use Rattle.px_world.specs.Consistency.{AreConsistent};
-ghost use Rattle.px_world.specs.Doing.{loses, set_to_fail, world_stopping};
+ghost use Rattle.px_world.specs.Parts.{loses};
 ghost use Rattle.px_world.specs.declared.fault.WorldFault.{WorldFault};
 ghost use Rattle.px_world.specs.declared.fault.WorldFault.TheVariants.{NoMemory};
 
 use crate::doors::{Door, is_there};
 use crate::playing::Playing;
 use crate::run::run;
+use crate::sinks::stop_at;
 use crate::spares::Spares;
 use crate::stepping::WorldCore;
 use crate::{Frames, Outcome, WorldFault};
@@ -51,7 +49,7 @@ impl Model for World {
     ghost use Rattle.std.specs.List.{AllByRecursion};
     ghost use Rattle.px_world.specs.Running.{Running};
     ghost use Rattle.px_world.specs.Playing.{mixer_of, IsPlaying};
-    ghost use Rattle.px_world.specs.Doing.{running_of};
+    ghost use Rattle.px_world.specs.Parts.{running_of};
     ghost use Rattle.px_world.specs.Consistency.{AreConsistent};
 
     ghost Value = { Running };
@@ -169,7 +167,8 @@ impl World {
         stop_at(&mut self.mixers, sink.0 as usize);
     }
 
-    /// Makes the sink's device fail at its next turn, which then stops the sink; a sink that is stopped already doesn't change. Takes no memory.
+    /// Makes the sink's device fail at its next turn, which then stops the sink; a sink that is stopped already doesn't change. An event `Stop` does this,
+    /// and sweeps the connections that have ended. Takes no memory.
     pub fn stop(&mut self, sink: SinkId)
         requires { sink.0 < length self.old.mixers }
         ensures after { self.new ≡ record self.old { mixers = change_at self.old.mixers sink.0 (slice_get self.old.mixers sink.0) set_to_fail } }
@@ -188,14 +187,4 @@ fn frames_at(mixers: &[Playing], place: usize) -> Option<Frames>
         consumed: playing.lane.consumed(),
         filled: playing.lane.filled(),
     })
-}
-
-// Makes the device of the mixer at `place` fail at its next turn.
-fn stop_at(mixers: &mut [Playing], place: usize)
-    requires { place < length mixers.old }
-    ensures after { map mixer_of mixers.new ≡ change_at (map mixer_of mixers.old) place (slice_get (map mixer_of mixers.old) place) set_to_fail }
-    ensures consistent { (core : State Plain) → AreConsistent core (map mixer_of mixers.old) → AreConsistent core (map mixer_of mixers.new) }
-    ensures playing { AllByRecursion IsPlaying mixers.old → AllByRecursion IsPlaying mixers.new }
-{
-    mixers[place].stop();
 }

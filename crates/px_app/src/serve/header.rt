@@ -1,5 +1,5 @@
 //! The header of a file.
-ghost use Rattle.std.specs.Prelude.{◌≡◌, ℕ, List, [], length, false, Ok, IfOk};
+ghost use Rattle.std.specs.Prelude.{◌≡◌, ℕ, List, [], length, None, Ok, IfOk};
 ghost use Rattle.px_header.specs.HeaderRules.{IsHeader};
 ghost use Rattle.px_app.specs.HeaderFile.{FirstGives, HeaderGives};
 
@@ -11,7 +11,7 @@ use std::alloc::Global;
 
 // Reads the header at the front of a file of these bytes; the error is the first rule that they break. The reader has read nothing before.
 fn first_header(reader: &mut Reader, bytes: Text) -> Result<Header, ReadError>
-    requires { reader.old ≡ record { at = 0; ahead = []; begun = false } }
+    requires { reader.old ≡ record { at = 0; ahead = []; begun = None } }
     ensures gives { FirstGives result bytes reader.new.at }
     ensures lawful { IfOk result IsHeader }
 {
@@ -39,7 +39,7 @@ fn whole(header: Header, end: u64, size: u64) -> Result<Header, ReadError>
     }
 }
 
-/// Reads a header file of these bytes; the error is the first rule that they break. Bytes after a header are refused at the first of them.
+/// Reads a header file of these bytes, of either form; the error is the first rule that they break. Bytes after a header are refused at the first of them.
 pub fn header_in(alloc: Global, bytes: Text) -> Result<Header, ReadError>
     ensures gives { HeaderGives result bytes }
     ensures lawful { IfOk result IsHeader }

@@ -1,7 +1,7 @@
 use Rattle.px_model.specs.Stream.{Stream}
 use Rattle.px_core.specs.Step.{connect}
 use Rattle.px_world.proofs.Openings.{refused-absent}
-use Rattle.px_world.proofs.Doing.{one-swept, one-swept-caused, consistent-one}
+use Rattle.px_world.proofs.Hearing.{one-swept, one-swept-caused, consistent-one}
 use Rattle.px_world.proofs.connections.admit.Goals as goal
 
 pub returns-clause-done : goal.returns-clause-done

@@ -1,6 +1,6 @@
 use Rattle.std.proofs.Common.{None}
 use Rattle.px_world.proofs.Openings.{refused-absent}
-use Rattle.px_world.proofs.Doing.{found-by}
+use Rattle.px_world.proofs.Hearing.{found-by}
 use Rattle.px_world.proofs.connections.close.Goals as goal
 
 pub leave-requires : goal.leave-requires

@@ -1,5 +1,5 @@
 use Rattle.std.proofs.Common.{None}
-use Rattle.px_world.proofs.Doing.{refused-found, found-by}
+use Rattle.px_world.proofs.Hearing.{refused-found, found-by}
 use Rattle.px_world.proofs.connections.connect.Goals as goal
 
 pub admit-requires : goal.admit-requires

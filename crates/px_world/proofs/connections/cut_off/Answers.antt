@@ -1,7 +1,7 @@
 use Rattle.std.proofs.Common.{◌∙◌}
 use Rattle.px_model.specs.Stream.{Stream}
 use Rattle.px_core.specs.Step.{cut}
-use Rattle.px_world.proofs.Doing.{refused-found, one-swept, one-swept-caused, consistent-one}
+use Rattle.px_world.proofs.Hearing.{refused-found, one-swept, one-swept-caused, consistent-one}
 use Rattle.px_world.proofs.connections.cut_off.Goals as goal
 
 pub returns-clause-done : goal.returns-clause-done

@@ -5,7 +5,7 @@ use Rattle.px_world.specs.World.{link_of, received_of}
 use Rattle.px_world.specs.Event.{bytes_steps}
 use Rattle.px_world.specs.Running.{steps_given}
 use Rattle.px_world.proofs.Going.{steps-behind, effects-behind}
-use Rattle.px_world.proofs.Doing.{refused-found, position-within, consistent-given}
+use Rattle.px_world.proofs.Hearing.{refused-found, position-within, consistent-given}
 use Rattle.px_world.proofs.connections.hear.Goals as goal
 
 pub feed-given-requires : goal.feed-given-requires

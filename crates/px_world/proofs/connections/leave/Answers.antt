@@ -1,7 +1,7 @@
 use Rattle.std.proofs.Common.{sym, ◌∙◌}
 use Rattle.px_model.specs.Stream.{Stream}
 use Rattle.px_core.specs.Step.{close}
-use Rattle.px_world.proofs.Doing.{refused-found, position-within, one-swept, one-swept-caused, close-silent, consistent-one}
+use Rattle.px_world.proofs.Hearing.{refused-found, position-within, one-swept, one-swept-caused, close-silent, consistent-one}
 use Rattle.px_world.proofs.connections.leave.Goals as goal
 
 pub drop_at-requires : goal.drop_at-requires

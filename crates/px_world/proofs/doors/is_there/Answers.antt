@@ -1,5 +1,5 @@
 use Rattle.std.proofs.Common.{◌∙◌}
-use Rattle.px_world.proofs.Doing.{found-named}
+use Rattle.px_world.proofs.Hearing.{found-named}
 use Rattle.px_world.proofs.doors.is_there.Goals as goal
 
 pub returns : goal.returns

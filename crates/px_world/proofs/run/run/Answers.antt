@@ -2,12 +2,12 @@ use Rattle.std.proofs.Common.{◌≡◌, List, length, map, refl, ap, sym, subst
 use Rattle.std.specs.Vec.{with_items}
 use Rattle.std.proofs.lemmas.List.{with_items_is}
 use Rattle.px_session.specs.declared.event.Event.{Event}
-use Rattle.px_session.specs.declared.event.Event.TheVariants.{Connect, Bytes, Close, Turn, Collect}
+use Rattle.px_session.specs.declared.event.Event.TheVariants.{Connect, Bytes, Close, Turn, Collect, Stop}
 use Rattle.px_world.specs.declared.doors.Door.{Door}
 use Rattle.px_world.specs.declared.playing.Playing.{Playing}
 use Rattle.px_world.specs.Playing.{mixer_of}
 use Rattle.px_world.specs.Running.{Open}
-use Rattle.px_world.specs.Doing.{running_of, Answered, IsRefused, Does, Plays, Runs}
+use Rattle.px_world.specs.Parts.{running_of, Answered, IsRefused, Does, Plays, Runs}
 use Rattle.px_world.proofs.Standings.{runs-connection, runs-sink, consistent-silent, keeps-it}
 use Rattle.px_world.proofs.run.run.Goals as goal
 
@@ -15,7 +15,7 @@ pub returns-in-Connect-clause-done : goal.returns-in-Connect-clause-done
 returns-in-Connect-clause-done c = λ w s.
     subst (λ (e : Event). Answered c.silent.result (Runs (running_of c.connect.new.core.state c.connect.new.doors.items c.args.mixers.now.items) w e) (IsRefused w e)) (sym c.in-Connect.is)
     (runs-connection (running_of c.args.core.now.state c.args.doors.now.items c.args.mixers.now.items) (running_of c.connect.new.core.state c.connect.new.doors.items c.args.mixers.now.items)
-    w (Connect c.in-Connect.conn) s c.connect.result c.silent.result c.silent.ensures (c.connect.ensures.done w s.doors) refl refl refl)
+    w (Connect c.in-Connect.conn) s c.connect.result c.silent.result c.silent.ensures (c.connect.ensures.done w s.doors) refl refl refl refl)
 
 pub returns-in-Bytes-clause-done : goal.returns-in-Bytes-clause-done
 returns-in-Bytes-clause-done c = λ w s.
@@ -26,13 +26,13 @@ returns-in-Bytes-clause-done c = λ w s.
     w (Bytes c.in-Bytes.conn c.in-Bytes.text) s c.bytes.result c.silent-in-Bytes.result c.silent-in-Bytes.ensures
     (subst (λ (ds : List Door). Answered c.bytes.result (Does c.args.core.now.state c.bytes.new.core.state ds w (Bytes c.in-Bytes.conn c.in-Bytes.text)) (IsRefused w (Bytes c.in-Bytes.conn c.in-Bytes.text))) (sym (with_items_is c.args.doors.now c.bytes.new.doors whole))
     (c.bytes.ensures.done w (subst (λ (ds : List Door). Open ds w.links) (sym c.deref_mut.ensures.value) s.doors) s.distinct))
-    refl refl refl)
+    refl refl refl refl)
 
 pub returns-in-Close-clause-done : goal.returns-in-Close-clause-done
 returns-in-Close-clause-done c = λ w s.
     subst (λ (e : Event). Answered c.silent-in-Close.result (Runs (running_of c.close.new.core.state c.close.new.doors.items c.args.mixers.now.items) w e) (IsRefused w e)) (sym c.in-Close.is)
     (runs-connection (running_of c.args.core.now.state c.args.doors.now.items c.args.mixers.now.items) (running_of c.close.new.core.state c.close.new.doors.items c.args.mixers.now.items)
-    w (Close c.in-Close.conn) s c.close.result c.silent-in-Close.result c.silent-in-Close.ensures (c.close.ensures.done w s.doors s.distinct) refl refl refl)
+    w (Close c.in-Close.conn) s c.close.result c.silent-in-Close.result c.silent-in-Close.ensures (c.close.ensures.done w s.doors s.distinct) refl refl refl refl)
 
 pub returns-in-Turn-clause-done : goal.returns-in-Turn-clause-done
 returns-in-Turn-clause-done c = λ w s.
@@ -56,6 +56,18 @@ returns-in-Collect-clause-done c = λ w s.
     (subst (λ (ps : List Playing). Answered c.collect.result (Plays c.args.core.now.state c.collect.new.core.state (map mixer_of ps) w (Collect c.in-Collect.sink c.in-Collect.take)) (IsRefused w (Collect c.in-Collect.sink c.in-Collect.take)))
     (sym (with_items_is c.args.mixers.now c.collect.new.mixers whole))
     (c.collect.ensures.done w (sym s.core) (sym s.mixers ∙ ap (λ (ps : List Playing). map mixer_of ps) (sym c.deref_mut-in-Collect.ensures.value))))
+    refl refl)
+
+pub returns-in-Stop-clause-done : goal.returns-in-Stop-clause-done
+returns-in-Stop-clause-done c = λ w s.
+    let whole : length c.stop.new.mixers ≡ c.args.mixers.now.len = search (arith, c.stop.auto.mixers, c.deref_mut-in-Stop.ensures.len, c.deref_mut-in-Stop.ensures.value) in
+    subst (λ (e : Event). Answered c.stop.result (Runs (running_of c.stop.new.core.state c.args.doors.now.items (with_items c.args.mixers.now c.stop.new.mixers).items) w e) (IsRefused w e)) (sym c.in-Stop.is)
+    (runs-sink (running_of c.args.core.now.state c.args.doors.now.items c.args.mixers.now.items)
+    (running_of c.stop.new.core.state c.args.doors.now.items (with_items c.args.mixers.now c.stop.new.mixers).items)
+    w (Stop c.in-Stop.sink) s c.stop.result
+    (subst (λ (ps : List Playing). Answered c.stop.result (Plays c.args.core.now.state c.stop.new.core.state (map mixer_of ps) w (Stop c.in-Stop.sink)) (IsRefused w (Stop c.in-Stop.sink)))
+    (sym (with_items_is c.args.mixers.now c.stop.new.mixers whole))
+    (c.stop.ensures.done w (sym s.core) (sym s.mixers ∙ ap (λ (ps : List Playing). map mixer_of ps) (sym c.deref_mut-in-Stop.ensures.value))))
     refl refl)
 
 pub returns-in-Connect-clause-consistent : goal.returns-in-Connect-clause-consistent

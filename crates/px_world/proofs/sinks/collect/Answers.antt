@@ -19,7 +19,7 @@ returns-clause-done c = λ w same_core same_mixers.
     (seen-at mixer_of c.args.mixers.now c.args.sink c.index-mixers-place-2.result within) c.collect_from.new.core.state _ c.args.count _ few c.in_ok-effects.ensures.core
     (changed-at mixer_of c.args.mixers.now c.args.sink c.index-mixers-place-2.result within _ (λ x. mixer_collected x c.args.count)
     (ap (λ (ns : List (Notice Stream)). record (mixer_of (get_or c.args.mixers.now c.args.sink c.index-mixers-place-2.result)) { notices = ns }) c.in_ok-effects.ensures.notices))
-    c.in_ok-effects.ensures.effects refl c.silence.ensures
+    c.in_ok-effects.ensures.effects refl c.silence.ensures refl
 
 pub returns-clause-consistent : goal.returns-clause-consistent
 returns-clause-consistent c =

@@ -61,7 +61,7 @@ returns-in_ok-outcome-in-None-clause-done c = λ w same_core same_mixers.
     c.in_ok-outcome-in-None.ensures.core
     (changed-at mixer_of c.args.mixers.now c.args.sink c.index-mixers-place-in-None.result within c.turn_of.new.playing
     (λ x. mixer_turned x c.args.frames (map (message_of (λ p. p)) (take c.args.count (waiting_for c.args.core.now.state (record { 0 = c.args.sink }))))) c.in_ok-outcome-in-None.ensures.mixer)
-    c.in_ok-outcome-in-None.ensures.effects c.in_ok-outcome-in-None.ensures.frames c.in_ok-outcome-in-None.ensures.played
+    c.in_ok-outcome-in-None.ensures.effects c.in_ok-outcome-in-None.ensures.frames c.in_ok-outcome-in-None.ensures.played c.in_ok-outcome-in-None.ensures.stopped
 
 pub returns-in_ok-outcome-in-None-clause-consistent : goal.returns-in_ok-outcome-in-None-clause-consistent
 returns-in_ok-outcome-in-None-clause-consistent c =

@@ -22,9 +22,9 @@ returns-in-Ok-write_outcome-clause-played c = λ look header events held stage.
     let outcome = c.in-Ok.outcome in
     let lens = c.args.self.now.lens in
     let done = c.in-Ok.ensures.done w stage.stands in
-    let part = shown_part lens c.turn_sink-sink.result outcome.effects outcome.frames outcome.played in
-    let same = ap (λ (sink : Option ℕ). shown_part lens sink outcome.effects outcome.frames outcome.played) c.turn_sink-sink.ensures
-    ∙ shown_is lens w c.args.e outcome.effects outcome.frames outcome.played done.effects done.frames done.played
+    let part = shown_part lens c.turn_sink-sink.result outcome.effects outcome.stopped outcome.frames outcome.played in
+    let same = ap (λ (sink : Option ℕ). shown_part lens sink outcome.effects outcome.stopped outcome.frames outcome.played) c.turn_sink-sink.ensures
+    ∙ shown_is lens w c.args.e outcome.effects outcome.stopped outcome.frames outcome.played done.effects done.stopped done.frames done.played
     ∙ ap (λ (l : Lens). part_of l w c.args.e) stage.looks in
     event_done look w c.args.e part (after_adding held c.args.pieces.now.bytes) (after_adding held c.write_outcome.new.output.bytes) same
     done.admitted (gathered c.args.pieces.now.bytes c.write_outcome.new.output.bytes part held c.in-Ok-write_outcome.ensures.ok)
@@ -35,9 +35,9 @@ returns-clause-played c = λ look header events held stage.
     let outcome = c.in-Ok.outcome in
     let lens = c.args.self.now.lens in
     let done = c.in-Ok.ensures.done w stage.stands in
-    let part = shown_part lens c.turn_sink-sink.result outcome.effects outcome.frames outcome.played in
-    let same = ap (λ (sink : Option ℕ). shown_part lens sink outcome.effects outcome.frames outcome.played) c.turn_sink-sink.ensures
-    ∙ shown_is lens w c.args.e outcome.effects outcome.frames outcome.played done.effects done.frames done.played
+    let part = shown_part lens c.turn_sink-sink.result outcome.effects outcome.stopped outcome.frames outcome.played in
+    let same = ap (λ (sink : Option ℕ). shown_part lens sink outcome.effects outcome.stopped outcome.frames outcome.played) c.turn_sink-sink.ensures
+    ∙ shown_is lens w c.args.e outcome.effects outcome.stopped outcome.frames outcome.played done.effects done.stopped done.frames done.played
     ∙ ap (λ (l : Lens). part_of l w c.args.e) stage.looks in
     inr (event_cut look w c.args.e part (after_adding held c.args.pieces.now.bytes) (after_adding held c.write_outcome.new.output.bytes) same
     done.admitted (gathered_front c.args.pieces.now.bytes c.write_outcome.new.output.bytes part held c.in-Err-write_outcome.ensures.err))

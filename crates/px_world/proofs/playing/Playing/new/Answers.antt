@@ -1,4 +1,4 @@
-use Rattle.std.proofs.Common.{◌≡◌, sym, subst, ap, ◌∙◌}
+use Rattle.std.proofs.Common.{◌≡◌, ℕ, ◌≤◌, sym, subst, ap, ◌∙◌}
 use Rattle.px_msg.specs.View.{sample_spec}
 use Rattle.px_ends.specs.declared.device.DeviceShape.{DeviceShape}
 use Rattle.px_ends.specs.Device.{IsShape}
@@ -26,4 +26,6 @@ returns-clause-playing c =
       taken = ap (λ (l : Lane MemoryDevice). l.device.played) lane ∙ ap (λ (d : MemoryDevice). d.played) is;
       attached = λ going. subst (λ (l : Lane MemoryDevice). IsAttached (state_of l.device) l.sink) (sym lane)
           (subst (λ (d : MemoryDevice). IsAttached (state_of d) (empty_sink (sample_spec sink.spec) sink.guard sink.depth)) (sym is) (is-attached sink));
+      known = sym (ap (λ (l : Lane MemoryDevice). l.sink.stopped) lane);
+      low_depth = subst (λ (n : ℕ). n ≤ 65536) (sym (ap (λ (l : Lane MemoryDevice). l.sink.depth) lane)) c.requires.1.depth.1;
     }

@@ -7,11 +7,14 @@ use Rattle.px_stream.specs.Samples.{samples}
 use Rattle.px_lane.specs.Turned.{Turns}
 use Rattle.px_lane.specs.declared.lane.Turned.{Turned}
 use Rattle.px_world.specs.Playing.{mixer_of}
-use Rattle.px_world.proofs.Played.{Leaves, leaves, unmarked, mixer-same, played-same, played-count}
+use Rattle.px_world.proofs.Played.{Leaves, leaves, unmarked, mixer-same, played-same, played-count, goes-on}
 use Rattle.px_world.proofs.playing.Playing.turn.Goals as goal
 
 armed_is : (c : goal.In-Played) → c.arm.new.self ≡ record c.args.self.now.lane.device { armed = Some (min c.args.frames c.args.self.now.lane.device.depth) }
-armed_is c = c.in_ok-arm.ensures.ok ∙ ap (λ (d : MemoryDevice). record d { armed = Some (min c.args.frames d.depth) }) c.device_mut.ensures.value
+armed_is c =
+    c.in_ok-arm.ensures.ok
+    ∙ ap (λ (d : MemoryDevice). record d { armed = Some (min c.in_32_bits.result d.depth) }) c.device_mut.ensures.value
+    ∙ ap (λ (n : ℕ). record c.args.self.now.lane.device { armed = Some (min n c.args.self.now.lane.device.depth) }) c.in_32_bits.ensures
 
 turns : (c : goal.In-Played) → Turns state_of (record { sink = c.args.self.now.lane.sink; device = record c.args.self.now.lane.device { armed = Some (min c.args.frames c.args.self.now.lane.device.depth) }; faults = c.args.self.now.lane.faults })
     c.counted.new.lane c.args.messages.now.messages c.args.self.now.notices.notices c.counted.new.notices.notices (Turned.Played c.in-Played.consumed c.in-Played.frames)
@@ -47,3 +50,6 @@ pub returns-in-Played-clause-bytes : goal.returns-in-Played-clause-bytes
 returns-in-Played-clause-bytes c =
     let it = left c in
     c.in_ok-bytes.ensures.ok ∙ (ap (λ (d : MemoryDevice). d.played) c.device_mut-2.ensures.value ∙ (it.bytes ∙ ap (λ (frames : List (List ℕ)). concat frames) (sym (played-same (mixer_of c.args.self.now) c.args.frames it.going))))
+
+pub returns-in-Played-clause-stopped : goal.returns-in-Played-clause-stopped
+returns-in-Played-clause-stopped c = sym (goes-on (mixer_of c.args.self.now) c.args.messages.now.messages (left c).going)

@@ -1,6 +1,6 @@
 use Rattle.std.proofs.Common.{Bool, subst}
 use Rattle.std.specs.Prelude.{IsFalse}
-use Rattle.px_world.specs.Doing.{loses}
+use Rattle.px_world.specs.Parts.{loses}
 use Rattle.px_world.proofs.Beginning.{unless-lost}
 use Rattle.px_world.proofs.world.World.event.Goals as goal
 

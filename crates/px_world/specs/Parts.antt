@@ -1,6 +1,6 @@
 -- What an event does to the parts of a world that runs.
-use Rattle.std.specs.Prelude.{◌≡◌, ℕ, Bool, true, false, cond, List, [], map, None, Some, length, Result, Ok, Err}
-use Rattle.std.specs.List.{concat, slice_get}
+use Rattle.std.specs.Prelude.{◌≡◌, Bool, true, false, List, [], map, None, Some, length, Result, Ok, Err}
+use Rattle.std.specs.List.{concat}
 use Rattle.px_session.specs.declared.event.Event.{Event}
 use Rattle.px_model.specs.Stream.{Stream}
 use Rattle.px_state.specs.declared.effect.Effect.{Effect}
@@ -14,7 +14,7 @@ use Rattle.px_world.specs.declared.playing.Playing.{Playing}
 use Rattle.px_world.specs.World.{World, Mixer}
 use Rattle.px_world.specs.Playing.{mixer_of}
 use Rattle.px_world.specs.Admission.{refusal_of}
-use Rattle.px_world.specs.Event.{all_steps, links_after, mixers_after, change_at, world_after, frames_played}
+use Rattle.px_world.specs.Event.{all_steps, links_after, mixers_after, world_after, frames_played, stopped_by}
 use Rattle.px_world.specs.Outcome.{IsOutcome}
 use Rattle.px_world.specs.Running.{Running, Open, StandsFor}
 
@@ -68,20 +68,15 @@ pub record Plays (before after : State Stream) (mixers : List Mixer) (w : World)
   pub caused : outcome.effects ≡ effects_by Stream.spec before (all_steps w e)
   pub counted : outcome.frames ≡ length (frames_played w e)
   pub bytes : outcome.played ≡ concat (frames_played w e)
+  pub stopped : outcome.stopped ≡ stopped_by w e
 
--- the sink's device will fail at the next turn, unless the sink is stopped
-abbrev pub set_to_fail : Mixer → Mixer
-set_to_fail m = cond m.sink.stopped m (record m { failing = true })
-
-abbrev pub world_stopping : World → ℕ → World
-world_stopping w sink = record w { mixers = change_at w.mixers sink (slice_get w.mixers sink) set_to_fail }
-
--- ---- an outcome with no sound
+-- ---- an outcome with no sound, of an event that stops no sink
 
 pub record HasNoSound (effects : List Effect) (outcome : Outcome) : Type 0 where
   pub caused : outcome.effects ≡ effects
   pub counted : outcome.frames ≡ 0
   pub bytes : outcome.played ≡ []
+  pub stopped : outcome.stopped ≡ None
 
 abbrev pub IsSilent : Result (List Effect) WorldFault → Result Outcome WorldFault → Type 0
 IsSilent (Ok effects) (Ok outcome) = HasNoSound effects outcome

@@ -1,10 +1,10 @@
 use Rattle.std.proofs.Common.{get_or, ap, ◌∙◌}
 use Rattle.px_world.specs.World.{Mixer}
 use Rattle.px_world.specs.Playing.{mixer_of}
-use Rattle.px_world.specs.Doing.{set_to_fail}
+use Rattle.px_world.specs.Event.{set_to_fail}
 use Rattle.px_world.proofs.Sounding.{changed-at}
 use Rattle.px_world.proofs.Beginning.{consistent-device, fail-notices}
-use Rattle.px_world.proofs.world.stop_at.Goals as goal
+use Rattle.px_world.proofs.sinks.stop_at.Goals as goal
 
 pub returns-clause-consistent : goal.returns-clause-consistent
 returns-clause-consistent c = λ core h. consistent-device mixer_of c.args.mixers.now c.args.place c.index-mixers-place.result c.stop.new.self core c.requires c.stop.ensures.sink
