@@ -14,9 +14,9 @@ ghost use Rattle.px_server.specs.Delivered.{IsDelivered};
 ghost use Rattle.px_workers.specs.Working.{start_at, start_of, IsHonest};
 ghost use Rattle.px_server.specs.Parts.{worked, unworked, starts_of, IsPart, AreParts, AreAgreed};
 ghost use Rattle.px_server.specs.Serving.{first_met};
-ghost use Rattle.px_server.specs.Taped.{AreTaping, AreCounted};
+ghost use Rattle.px_server.specs.Taped.{AreTaping, AreTurnsOf};
 ghost use Rattle.px_server.specs.Mailboxes.{boxes_at, boxes_in};
-ghost use Rattle.px_tape.specs.Tape.{Turns, total};
+ghost use Rattle.px_tape.specs.Tape.{Turns};
 
 use crate::served::{LanePart, status_of_fault};
 use px_annals::{CoreEntry, LaneEntry, RecordFault, Recorder};
@@ -68,7 +68,7 @@ fn closed<D: Device + Drop, E: Recorder<LaneEntry> + Drop>(
         → IsPart began None D.now E.visible E.faults E.fulls (worked (start_at sink cell.lane.sink) sink_fault) result }
     ensures delivered { (began : State PlainStream) (entries : List Entry) → IsAgreed began entries sink.0 (ends_of end)
         → IfSome (E.visible result.recorder) (IsDelivered began entries sink (unturned cell.lane.sink)) }
-    ensures recorder { result.recorder ≡ cell.recorder }
+    ensures recorder { (result.sink ≡ sink) × (result.recorder ≡ cell.recorder) }
 {
     let LaneCellParts {
         lane,
@@ -113,7 +113,7 @@ fn close_all<D: Device + Drop, E: Recorder<LaneEntry> + Drop>(
     requires room { length idle.old.items ≤ vec_capacity lanes.old }
     requires no_turns { turns.old.items ≡ [] }
     requires turns_room { length idle.old.items ≤ vec_capacity turns.old }
-    ensures turns { AreTaping idle.old.items → AreCounted E.visible lanes.new.items (total turns.new.items) }
+    ensures turns { AreTaping idle.old.items → AreTurnsOf E.visible lanes.new.items turns.new.items }
     ensures sink_fault { result ≡ first_met (map unworked idle.old.items) }
     ensures parts { (began : State PlainStream) (core : Option (List Entry)) → AreAgreed began core idle.old.items ends.items
         → AreParts began core D.now E.visible E.faults E.fulls (map unworked idle.old.items) lanes.new.items }
@@ -178,7 +178,7 @@ where
     requires room { length idle.old.items ≤ vec_capacity lanes.old }
     requires no_turns { turns.old.items ≡ [] }
     requires turns_room { length idle.old.items ≤ vec_capacity turns.old }
-    ensures turns { AreTaping idle.old.items → AreCounted E.visible lanes.new.items (total turns.new.items) }
+    ensures turns { AreTaping idle.old.items → AreTurnsOf E.visible lanes.new.items turns.new.items }
     ensures sink_fault { result.sink_fault ≡ first_met (map unworked idle.old.items) }
     ensures parts { AreParts L.began (C.visible result.recorder) D.now E.visible E.faults E.fulls (map unworked idle.old.items) lanes.new.items }
     ensures caused { IsCaused result.fault (C.faults result.recorder) (C.fulls result.recorder) }

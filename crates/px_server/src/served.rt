@@ -1,10 +1,10 @@
 //! What a serving call hands back, with its statuses.
 
-ghost use Rattle.std.specs.Prelude.{◌≡◌, ◌⊎◌, false, true, IfSome, IsSome, None};
+ghost use Rattle.std.specs.Prelude.{◌≡◌, ◌⊎◌, ℕ, false, true, IfSome, IsSome, None};
 ghost use Rattle.px_workers.specs.declared.stop.Stop.TheVariants.{Memory, Over};
 ghost use Rattle.px_server.specs.Causes.{status_of_record, status_of_fault, decided, undecided};
 ghost use Rattle.px_server.specs.Hosted.{stop_by};
-ghost use Rattle.px_tape.specs.Tape.{turns_in, total};
+ghost use Rattle.px_tape.specs.Tape.{turns_in, total, at_sink, events_at};
 
 use px_annals::RecordFault;
 use px_ends::{Host, HostFault};
@@ -101,6 +101,7 @@ pub(crate) fn woven(
 ) -> (Option<Events>, Stop)
     ensures none { taped ≡ false → result.0 ≡ None }
     ensures turns { IfSome result.0 (λ events. turns_in events ≡ total turns.items) }
+    ensures sinks { IfSome result.0 (λ events. (at : ℕ) → at_sink at events ≡ events_at at turns.items) }
     ensures whole { taped ≡ true → result.1 ≡ Over → IsSome result.0 }
     ensures stop { (result.1 ≡ stop) ⊎ ((stop ≡ Over) × (result.1 ≡ Memory)) }
 {

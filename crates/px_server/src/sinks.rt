@@ -1,5 +1,5 @@
 //! The sinks of a server: what the host makes for each, and their cells.
-ghost use Rattle.std.specs.Prelude.{◌≡◌, ℕ, ◌+◌, ◌≤◌, ◌<◌, ◌++◌, ◌∷◌, [], List, length, map, IfOk, IfErr, OnOk, OnErr, IfSome, vec_len, vec_capacity};
+ghost use Rattle.std.specs.Prelude.{◌≡◌, ℕ, ◌+◌, ◌≤◌, ◌<◌, false, ◌++◌, ◌∷◌, [], List, length, map, IfOk, IfErr, OnOk, OnErr, IfSome, vec_len, vec_capacity};
 ghost use Rattle.std.specs.Option.{is_some};
 ghost use Rattle.std.specs.VecDeque.{deque_len, deque_capacity};
 ghost use Rattle.px_ends.specs.Device.{IsShape};
@@ -133,7 +133,7 @@ fn cell_of<D: Device + Drop, E: Recorder<LaneEntry> + Drop>(
 // No turns of a sink yet, where there is a tape.
 fn turns_of(alloc: Global, sink: SinkId, taped: bool) -> Option<SinkTurns>
     ensures tapes { is_some result ≡ taped }
-    ensures none { IfSome result (λ turns. turns.turns ≡ []) }
+    ensures none { IfSome result (λ turns. (turns.turns ≡ []) × (turns.failed ≡ false) × (turns.sink ≡ sink.0)) }
 {
     if taped {
         Some(SinkTurns::new(alloc, sink))

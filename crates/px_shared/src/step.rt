@@ -3,7 +3,7 @@
 ghost use Rattle.std.specs.Prelude.{◌≡◌, ◌+◌, ◌≤◌, length, IfOk};
 ghost use Rattle.px_core_cell.specs.Step.{IsAsked, HandsBack};
 ghost use Rattle.px_shared.specs.Taped.{AreEventsOf};
-ghost use Rattle.px_tape.specs.Tape.{turns_in};
+ghost use Rattle.px_tape.specs.Tape.{AreOthers};
 
 use crate::out_queues::OutQueues;
 use crate::shared::Shared;
@@ -21,7 +21,7 @@ use std::sync::atomic::Ordering;
 fn events_of(alloc: Global, step: &CoreStep) -> Mem<Events>
     requires { IsAsked step.now }
     ensures events { IfOk result (AreEventsOf step.now) }
-    ensures turns { IfOk result (λ events. turns_in events ≡ 0) }
+    ensures others { IfOk result AreOthers }
 {
     match step {
         CoreStep::Connect(conn) => Events::connect(alloc, *conn),
@@ -137,7 +137,7 @@ fn owes_sweep(step: &CoreStep) -> bool {
 // The events of a step, for which the tape has room.
 fn ready_events(alloc: Global, tape: &mut Tape, step: &CoreStep) -> Mem<Events>
     requires { IsAsked step.now }
-    ensures turns { IfOk result (λ events. turns_in events ≡ 0) }
+    ensures others { IfOk result AreOthers }
     ensures room { IfOk result (λ events. length tape.new.marks + length events ≤ tape.new.capacity) }
 {
     let events = events_of(alloc, step)?;

@@ -1,3 +1,4 @@
 mod Counts
 mod Faults
 mod Written
+mod Sinks

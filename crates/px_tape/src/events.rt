@@ -1,5 +1,5 @@
 //! Lists of events that are possible in a session.
-ghost use Rattle.std.specs.Prelude.{◌≡◌, ◌++◌, ◌∷◌, [], length, IfOk, OnOk, OnErr};
+ghost use Rattle.std.specs.Prelude.{◌≡◌, ◌++◌, ◌∷◌, [], length, Some, IfOk, OnOk, OnErr};
 ghost use Rattle.std.specs.List.{flat_map, AllByRecursion};
 ghost use Rattle.px_ends.specs.Visible.{after_adding};
 ghost use Rattle.px_ends.specs.Whole.{AddsFront};
@@ -8,9 +8,10 @@ ghost use Rattle.px_header.specs.HeaderRules.{IsHeader};
 ghost use Rattle.px_session.specs.Spelling.{event, spelled};
 ghost use Rattle.px_session.specs.Writing.{FitsEvent};
 ghost use Rattle.px_session.specs.declared.event.Event.TheVariants as kind;
-ghost use Rattle.px_tape.specs.Tape.{form, begun};
+ghost use Rattle.px_tape.specs.Tape.{form, begun, events_next};
 ghost use Rattle.px_types.specs.Faults.{Rose};
 
+use crate::turns::NextTurn;
 use px_ends::Sink;
 use px_header::Header;
 use px_session::{Event, Form, WriteError, write_end, write_event, write_header};
@@ -19,7 +20,7 @@ use std::alloc::Global;
 use std::marker::Model;
 
 /// The form of a tape's session.
-const FORM: Form = Form::One;
+const FORM: Form = Form::Two;
 
 /// Events of a session, in their order. Contracts see the list; each event is possible in a session.
 #[derive(Debug, Drop)]
@@ -99,6 +100,20 @@ impl Events {
     {
         self.events.push(event)?;
         Ok(())
+    }
+
+    /// Appends the events of a turn: where it stops its sink a stop, and the turn.
+    pub(crate) fn push_turn(&mut self, next: NextTurn) -> Mem<()>
+        ensures { OnOk result (self.new ≡ self.old ++ events_next (Some next)) }
+    {
+        if next.stops {
+            self.push(Event::Stop(SinkId(next.sink)))?;
+        }
+        self.push(Event::Turn {
+            sink: next.sink,
+            frames: u64::from(next.frames),
+            take: u64::from(next.take),
+        })
     }
 
     // A list of this event alone.

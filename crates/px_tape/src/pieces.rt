@@ -4,7 +4,7 @@ ghost use Rattle.std.specs.List.{concat};
 ghost use Rattle.px_block.specs.HeldBlock.{HeldBlock, contents};
 ghost use Rattle.px_frame.specs.Frame.{IsBody};
 ghost use Rattle.px_frame.specs.Reading.{IsRead, Unfinished, Broken};
-ghost use Rattle.px_tape.specs.Tape.{turns_in, all_bytes};
+ghost use Rattle.px_tape.specs.Tape.{AreOthers, ArePieces, all_bytes};
 
 use crate::events::Events;
 use px_block::Block;
@@ -16,7 +16,7 @@ use std::alloc::Global;
 
 // The bytes of a client as events, split at the most bytes that an event has room for.
 fn cut(alloc: Global, conn: ConnId, bytes: &[u8]) -> Mem<Events>
-    ensures turns { IfOk result (λ events. turns_in events ≡ 0) }
+    ensures pieces { IfOk result (ArePieces conn) }
     ensures bytes { IfOk result (λ events. all_bytes events ≡ bytes.now) }
 {
     let mut events = Events::new(alloc);
@@ -89,7 +89,8 @@ impl Events {
     /// A client's frame: bytes that are read as one frame with this body, and nothing else.
     pub fn frame(alloc: Global, conn: ConnId, body: &Body) -> Mem<Events>
         requires { IsBody body.now }
-        ensures turns { IfOk result (λ events. turns_in events ≡ 0) }
+        ensures pieces { IfOk result (ArePieces conn) }
+        ensures others { IfOk result AreOthers }
         ensures bytes { IfOk result (λ events. IsRead (all_bytes events) (record { at = 20; body = body.now } ∷ []) Unfinished) }
     {
         let bytes = spelled(alloc, body)?;
@@ -98,7 +99,8 @@ impl Events {
 
     /// A fault in a client's bytes: twenty bytes that aren't read as a frame, but end with this fault.
     pub fn fault(alloc: Global, conn: ConnId, fault: FrameFault) -> Mem<Events>
-        ensures turns { IfOk result (λ events. turns_in events ≡ 0) }
+        ensures pieces { IfOk result (ArePieces conn) }
+        ensures others { IfOk result AreOthers }
         ensures bytes { IfOk result (λ events. (at : ℕ) × IsRead (all_bytes events) [] (Broken fault at)) }
     {
         cut(alloc, conn, &fault_bytes(fault))

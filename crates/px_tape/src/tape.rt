@@ -1,9 +1,9 @@
 //! The order of a tape's events.
-ghost use Rattle.std.specs.Prelude.{◌≡◌, ◌+◌, ◌≤◌, ◌<◌, ◌++◌, ◌∷◌, [], length, map, vec_len, vec_capacity, IfOk, OnOk};
+ghost use Rattle.std.specs.Prelude.{◌≡◌, ℕ, ◌+◌, ◌≤◌, ◌<◌, ◌++◌, ◌∷◌, [], length, map, vec_len, vec_capacity, IfOk, OnOk};
 ghost use Rattle.std.specs.List.{AllByRecursion};
 ghost use Rattle.px_session.specs.EventRules.{IsEvent};
 ghost use Rattle.px_tape.specs.declared.tape.Mark.TheVariants.{Made, TurnOf};
-ghost use Rattle.px_tape.specs.Tape.{turns_in, total, IsMark};
+ghost use Rattle.px_tape.specs.Tape.{turns_in, total, at_sink, events_at, AreOthers, IsMark};
 
 use crate::events::Events;
 use crate::turns::{SinkTurns, add_all_left, next_turn};
@@ -44,12 +44,13 @@ impl Model for Tape {
 // Appends the event that a mark stands for.
 fn add_mark(events: &mut Events, mark: Mark, turns: &mut [SinkTurns]) -> Mem<()>
     requires { IsMark mark }
-    ensures { OnOk result (turns_in events.new + total turns.new ≡ turns_in events.old + total turns.old) }
+    ensures count { OnOk result (turns_in events.new + total turns.new ≡ turns_in events.old + total turns.old) }
+    ensures events { OnOk result ((at : ℕ) → at_sink at events.new ++ events_at at turns.new ≡ at_sink at events.old ++ events_at at turns.old) }
 {
     match mark {
         Mark::Made(event) => events.push(event),
         Mark::TurnOf(sink) => match next_turn(turns, sink) {
-            Some(turn) => events.push(turn),
+            Some(turn) => events.push_turn(turn),
             None => Ok(()),
         },
     }
@@ -85,30 +86,34 @@ impl Tape {
         Ok(())
     }
 
-    /// Appends the events of a step of the core, none of which is a turn. Takes no memory.
+    /// Appends the events of a step of the core, none of which is a turn or a stop of a sink. Takes no memory.
     pub fn add(&mut self, events: Events)
         requires room { length self.old.marks + length events ≤ self.old.capacity }
-        requires others { turns_in events ≡ 0 }
+        requires others { AreOthers events }
         ensures { self.new.marks ≡ self.old.marks ++ map Made events }
     {
         add_made(&mut self.marks, events.into_vec());
     }
 
-    /// Appends a turn of a sink, whose device consumed `frames` frames and which took `take` messages. Takes no memory.
-    pub fn add_turn(&mut self, turns: &mut SinkTurns, frames: u32, take: u32)
+    /// Appends a turn of a sink that took `take` messages. Its device consumed `consumed` frames, `None` where it failed in this turn or before. Takes
+    /// no memory.
+    pub fn add_turn(&mut self, turns: &mut SinkTurns, consumed: Option<u32>, take: u32)
         requires room { length self.old.marks < self.old.capacity }
         requires own_room { length turns.old.turns < turns.old.capacity }
         ensures marks { self.new.marks ≡ self.old.marks ++ TurnOf turns.old.sink ∷ [] }
-        ensures turns { turns.new.turns ≡ turns.old.turns ++ (record { frames = frames; take = take }) ∷ [] }
+        ensures turns { turns.new.turns ≡ turns.old.turns ++ (record { consumed = consumed; take = take }) ∷ [] }
         ensures sink { turns.new.sink ≡ turns.old.sink }
+        ensures failed { turns.new.failed ≡ turns.old.failed }
     {
         self.marks.push(Mark::TurnOf(turns.sink())).unwrap();
-        turns.push(frames, take);
+        turns.push(consumed, take);
     }
 
-    /// The events of the tape of sinks that made these turns: each turn is one event, and no other event is a turn.
+    /// The events of the tape of sinks that made these turns: each turn is one event, with a stop before the first turn of a sink in which its device
+    /// failed; no other event is a turn or a stop.
     pub fn into_events(self, alloc: Global, turns: Vec<SinkTurns>) -> Mem<Events>
-        ensures { IfOk result (λ events. turns_in events ≡ total turns.items) }
+        ensures count { IfOk result (λ events. turns_in events ≡ total turns.items) }
+        ensures sinks { IfOk result (λ events. (at : ℕ) → at_sink at events ≡ events_at at turns.items) }
     {
         let mut turns = turns;
         let mut left = VecDeque::from_vec(self.marks);

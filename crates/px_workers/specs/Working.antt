@@ -1,5 +1,5 @@
 -- What the work of a sink preserves.
-use Rattle.std.specs.Prelude.{◌≡◌, ℕ, ◌≤◌, List, length, Bool, Option, None, Some, IfSome, IsTrue, ⊤}
+use Rattle.std.specs.Prelude.{◌≡◌, ℕ, ◌≤◌, List, length, map, Bool, false, Option, None, Some, IfSome, IsTrue, ⊤}
 use Rattle.std.specs.Option.{is_some}
 use Rattle.px_types.specs.declared.ids.SinkId.{SinkId}
 use Rattle.px_annals.specs.declared.entry.LaneEntry.{LaneEntry}
@@ -13,7 +13,8 @@ use Rattle.px_lane_cell.specs.History.{unturned}
 use Rattle.px_workers.specs.declared.sink_state.SinkFault.{SinkFault}
 use Rattle.px_workers.specs.declared.sink_state.SinkFault.TheVariants.{Nothing, Stopped, Unrecorded}
 use Rattle.px_workers.specs.declared.sink_state.TurnOutcome.{TurnOutcome}
-use Rattle.px_workers.specs.declared.sink_state.TurnOutcome.TheVariants.{Made, NotYet, Ended}
+use Rattle.px_workers.specs.declared.sink_state.TurnOutcome.TheVariants as outcome
+use Rattle.px_tape.specs.declared.turns.Turn.{Turn as Made}
 use Rattle.px_tape.specs.Tape.{Turns}
 
 -- a worker's fault has its cause in its sink's device or recorder, by their counts of faults and of Fulls; it is `Nothing` only where nothing failed
@@ -29,16 +30,22 @@ pub record IsHonest {D E : Type 0} (now : D → DeviceState) (faults fulls : E �
   pub sink_fault : IsFaultOf (now cell.lane.device).faults (faults cell.recorder) (fulls cell.recorder) seen
   pub stopped : IsTrue cell.lane.sink.stopped → 1 ≤ (now cell.lane.device).faults
 
--- where there is a tape and the recorder is visible, the tape has one turn of the sink for each entry of the recorder
-abbrev pub AreTaped : {E : Type 0} → (E → Option (List LaneEntry)) → E → Option Turns → Type 0
-AreTaped visible recorder None = ⊤
-AreTaped visible recorder (Some t) = IfSome (visible recorder) (λ entries. length t.turns ≡ length entries)
+-- a turn as it is recorded for a tape, by the entry of the sink's recorder: what its device consumed, and how many messages it took
+abbrev pub made_by : LaneEntry → Made
+made_by entry = record { consumed = entry.consumed; take = length entry.messages }
 
--- what the recorder holds after a turn: one more entry where the turn was made
-abbrev pub Notes : {E : Type 0} → (E → Option (List LaneEntry)) → TurnOutcome → E → E → Type 0
-Notes visible (Made frames) before after = (entry : LaneEntry) × (visible after ≡ noted entry (visible before))
-Notes visible NotYet before after = visible after ≡ visible before
-Notes visible Ended before after = visible after ≡ visible before
+-- where there is a tape, its turns of the sink with this index are all that the sink made; where the recorder is visible they are those of its
+-- entries, in the same order
+abbrev pub AreTaped : {E : Type 0} → (E → Option (List LaneEntry)) → SinkId → E → Option Turns → Type 0
+AreTaped visible sink recorder None = ⊤
+AreTaped visible sink recorder (Some t) = (t.sink ≡ sink.0) × (t.failed ≡ false) × IfSome (visible recorder) (λ entries. t.turns ≡ map made_by entries)
+
+-- what the recorder holds after a turn: where the turn was made one more entry, by what the device consumed and the number of messages taken
+abbrev pub Notes : {E : Type 0} → (E → Option (List LaneEntry)) → TurnOutcome → E → E → ℕ → Type 0
+Notes visible (outcome.Made consumed) before after taken =
+    (entry : LaneEntry) × (visible after ≡ noted entry (visible before)) × (made_by entry ≡ record { consumed = consumed; take = taken })
+Notes visible outcome.NotYet before after taken = visible after ≡ visible before
+Notes visible outcome.Ended before after taken = visible after ≡ visible before
 
 -- a sink not owned by a running worker, with the first fault of its worker, if it had one, and the turns that it made, where there is a tape
 pub record Unworked (D E : Type 0) : Type 0 where

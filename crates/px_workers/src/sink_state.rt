@@ -1,5 +1,6 @@
 //! A sink of the server, and its turns.
 ghost use Rattle.std.specs.Prelude.{◌≡◌, ◌<◌, true, Some, length};
+ghost use Rattle.px_types.specs.declared.ids.SinkId.{SinkId};
 ghost use Rattle.px_lane_cell.specs.History.{unturned};
 ghost use Rattle.px_workers.specs.declared.sink_state.SinkFault.TheVariants.{Nothing};
 ghost use Rattle.px_workers.specs.Working.{IsHonest, AreTaped, Notes, GoesOn};
@@ -29,8 +30,8 @@ pub enum SinkFault {
 /// The outcome of a turn.
 #[derive(Clone, Copy, PartialEq, Eq)]
 pub(crate) enum TurnOutcome {
-    /// It was made, and the sink's device consumed this number of frames in it, 0 where the sink has stopped.
-    Made(u32),
+    /// It was made, and the sink's device consumed this number of frames in it, `None` where it failed in this turn or before.
+    Made(Option<u32>),
     /// It wasn't made, as memory ran out; the next one may be.
     NotYet,
     /// It wasn't made, and no more can be.
@@ -50,18 +51,18 @@ where
     D: Device + Drop,
     E: Recorder<LaneEntry> + Drop,
     B: BlockSource,
-    ensures noted { Notes E.visible result cell.old.recorder cell.new.recorder }
+    ensures noted { Notes E.visible result cell.old.recorder cell.new.recorder cell.new.taken }
     ensures honest { IsHonest D.now E.faults E.fulls cell.old sink_fault.old → IsHonest D.now E.faults E.fulls cell.new sink_fault.new }
     ensures start { unturned cell.new.lane.sink ≡ unturned cell.old.lane.sink }
     ensures boxes { cell.new.ends.boxes ≡ cell.old.ends.boxes }
 {
     match cell.turn(rt, alloc, blocks) {
-        Ok(Turned::Played { frames, .. }) => TurnOutcome::Made(frames),
+        Ok(Turned::Played { frames, .. }) => TurnOutcome::Made(Some(frames)),
         Ok(Turned::Stopped { .. }) => {
             if *sink_fault == SinkFault::Nothing {
                 *sink_fault = SinkFault::Stopped;
             }
-            TurnOutcome::Made(0)
+            TurnOutcome::Made(None)
         }
         Err(CellFault::NoMemory) => TurnOutcome::NotYet,
         Err(CellFault::Worn { .. }) => TurnOutcome::Ended,
@@ -83,6 +84,7 @@ fn is_ready(tape: &mut Tape, turns: &mut SinkTurns) -> bool
     ensures tape { result ≡ true → length tape.new.marks < tape.new.capacity }
     ensures own { result ≡ true → length turns.new.turns < turns.new.capacity }
     ensures turns { turns.new.turns ≡ turns.old.turns }
+    ensures same { (turns.new.sink ≡ turns.old.sink) × (turns.new.failed ≡ turns.old.failed) }
 {
     match tape.ready(1) {
         Ok(()) => match turns.ready() {
@@ -108,7 +110,7 @@ where
     D: Device + Drop,
     E: Recorder<LaneEntry> + Drop,
     B: BlockSource,
-    ensures taped { AreTaped E.visible cell.old.recorder (Some turns.old) → AreTaped E.visible cell.new.recorder (Some turns.new) }
+    ensures taped { (sink : SinkId) → AreTaped E.visible sink cell.old.recorder (Some turns.old) → AreTaped E.visible sink cell.new.recorder (Some turns.new) }
     ensures honest { IsHonest D.now E.faults E.fulls cell.old sink_fault.old → IsHonest D.now E.faults E.fulls cell.new sink_fault.new }
     ensures start { unturned cell.new.lane.sink ≡ unturned cell.old.lane.sink }
     ensures boxes { cell.new.ends.boxes ≡ cell.old.ends.boxes }
@@ -118,9 +120,9 @@ where
         return TurnOutcome::NotYet;
     }
     match turn_once(rt, alloc, cell, sink_fault, blocks) {
-        TurnOutcome::Made(frames) => {
-            tape.add_turn(turns, frames, cell.taken());
-            TurnOutcome::Made(frames)
+        TurnOutcome::Made(consumed) => {
+            tape.add_turn(turns, consumed, cell.taken());
+            TurnOutcome::Made(consumed)
         }
         TurnOutcome::NotYet => TurnOutcome::NotYet,
         TurnOutcome::Ended => TurnOutcome::Ended,
@@ -144,14 +146,14 @@ impl<D: Device, E: Recorder<LaneEntry>> Model for SinkState<D, E> {
 
     ghost view = { λ l. record { sink = l.sink; cell = l.cell; sink_fault = l.sink_fault; turns = l.turns } };
 
-    ghost invariant = { λ l. IsHonest D.now E.faults E.fulls l.cell l.sink_fault × AreTaped E.visible l.cell.recorder l.turns };
+    ghost invariant = { λ l. IsHonest D.now E.faults E.fulls l.cell l.sink_fault × AreTaped E.visible l.sink l.cell.recorder l.turns };
 }
 
 impl<D: Device + Drop, E: Recorder<LaneEntry> + Drop> SinkState<D, E> {
     /// A sink before its worker has started.
     pub fn new(sink: SinkId, cell: LaneCell<D, E>, turns: Option<SinkTurns>) -> SinkState<D, E>
         requires honest { IsHonest D.now E.faults E.fulls cell Nothing }
-        requires taped { AreTaped E.visible cell.recorder turns }
+        requires taped { AreTaped E.visible sink cell.recorder turns }
         ensures { result ≡ record { sink = sink; cell = cell; sink_fault = Nothing; turns = turns } }
     {
         SinkState {

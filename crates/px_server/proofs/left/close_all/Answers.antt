@@ -8,7 +8,7 @@ use Rattle.px_server.specs.Parts.{unworked}
 use Rattle.px_workers.specs.Working.{Unworked, AreTaped}
 use Rattle.px_server.proofs.Parts.{part_agreed, handed_none, handed_one, handed_all, met_one, met_all}
 use Rattle.px_server.proofs.Delivering.{agreed_one, entries_follow, boxes_rest}
-use Rattle.px_server.proofs.Taping.{taping_first, counted_none, counted_one}
+use Rattle.px_server.proofs.Taping.{taping_first, turns_none, turns_one}
 use Rattle.px_server.proofs.left.close_all.Goals as goal
 
 pub loop-sink-init : goal.loop-sink-init
@@ -17,7 +17,7 @@ loop-sink-init g c = record {
   boxes = search rules;
   sink_fault = search rules;
   turns_room = search rules;
-  turns = λ on. (on, counted_none g.E.Recorder.visible c.args.lanes.now.items c.args.turns.now.items c.requires.none c.requires.no_turns);
+  turns = λ on. (on, turns_none g.E.Recorder.visible c.args.lanes.now.items c.args.turns.now.items c.requires.none c.requires.no_turns);
   parts = λ began core visible. (search rules, handed_none began core g.D.Device.now g.E.Recorder.visible g.E.Recorder.faults g.E.Recorder.fulls c.args.idle.now.items c.args.lanes.now.items c.requires.none);
 }
 
@@ -38,10 +38,10 @@ loop-sink-preserved g c =
       turns = λ on.
           let so = c.loop-sink.invariant.turns on in
           let first = taping_first left rest one front so.0 in
-          let taped : AreTaped g.E.Recorder.visible one.cell.recorder one.turns = search rules in (
+          let taped : AreTaped g.E.Recorder.visible one.sink one.cell.recorder one.turns = search rules in (
             first.1,
-            counted_one g.E.Recorder.visible c.loop-sink.lanes.items c.push.new.self.items c.closed.result c.loop-sink.turns.items c.add_turns.new.turns.items one.cell.recorder one.turns
-                more c.closed.ensures.recorder first.0 taped c.add_turns.ensures.more so.1,
+            turns_one g.E.Recorder.visible c.loop-sink.lanes.items c.push.new.self.items c.closed.result c.loop-sink.turns.items c.add_turns.new.turns.items one.sink one.cell.recorder one.turns
+                more c.closed.ensures.recorder.0 c.closed.ensures.recorder.1 first.0 taped c.add_turns.ensures.more so.1,
           );
       parts = λ began core visible.
           let so = c.loop-sink.invariant.parts began core visible in
