@@ -10,15 +10,15 @@ use Rattle.std.proofs.lemmas.List.{length-append}
 use Rattle.px_frame.specs.Descriptor.{data_descriptor}
 use Rattle.px_gen.specs.Numbers.{next_state, next_number, samples}
 use Rattle.px_gen.specs.Client.{volume_packet, cork_packet, control_frame, data_frame, is_mono}
-use Rattle.px_gen.specs.Generator.{header, opening, conn_in, choice_in, samples_of, said, step_events}
+use Rattle.px_gen.specs.Generator.{form, header, opening, conn_in, choice_in, samples_of, said, step_events}
 use Rattle.px_gen.proofs.Sizes.{samples_size}
 
 pub header_fits : FitsHeader header
 header_fits = record { count = lit< tt; names = (lit< tt, (lit< tt, tt)) }
 
-pub opening_fits : AllByRecursion FitsEvent opening
+pub opening_fits : AllByRecursion (FitsEvent form) opening
 unfolding auth_packet create_packet descriptor_bytes number arbitrary text flag spec channel_map channel_volumes proplist
-opening_fits = (tt, (lit< tt, (lit< tt, (tt, (lit< tt, (lit< tt, (tt, (lit< tt, (lit< tt, (tt, (lit< tt, (lit< tt, (tt, (tt, tt))))))))))))))
+opening_fits = (tt, (lit< tt, (lit< tt, (tt, (lit< tt, (lit< tt, (tt, (lit< tt, (lit< tt, (tt, (lit< tt, (lit< tt, ((lit< tt, lit< tt), ((lit< tt, lit< tt), tt))))))))))))))
 
 if_few : (b : Bool) (x y : List ℕ) → length x ≤ 65536 → length y ≤ 65536 → length (if b then x else y) ≤ 65536
 if_few true x y few other = few
@@ -53,6 +53,6 @@ said_few n choice x =
     if_few (choice == 0) _ _ (volume_few n (next_number x % 65537))
     (if_few (choice == 1) _ _ (cork_few (next_number x % 4 == 0)) (data_few (samples (samples_of n) x) (omega arith)))
 
-pub step_fits : (x : ℕ) → AllByRecursion FitsEvent (step_events x)
+pub step_fits : (x : ℕ) → AllByRecursion (FitsEvent form) (step_events x)
 unfolding step_events
-step_fits x = (said_few (conn_in (next_number x)) (choice_in (next_number x)) (next_state x), (tt, tt))
+step_fits x = (said_few (conn_in (next_number x)) (choice_in (next_number x)) (next_state x), ((lit< tt, lit< tt), tt))

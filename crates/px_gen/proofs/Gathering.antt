@@ -12,7 +12,7 @@ use Rattle.px_session.specs.Spelling.{event, end_byte}
 use Rattle.px_session.specs.Spelling as spelling
 use Rattle.px_gen.specs.declared.writing.Stop.{Stop}
 use Rattle.px_gen.specs.declared.writing.Stop.TheVariants as stop
-use Rattle.px_gen.specs.Generator.{header, opening, step_events, step_state, steps, generated}
+use Rattle.px_gen.specs.Generator.{form, header, opening, step_events, step_state, steps, generated}
 use Rattle.px_gen.specs.Writing.{Gathered, GatheredBy}
 use Rattle.px_gen.proofs.Loops.{state_behind, steps_around, steps_more}
 use Rattle.px_gen.proofs.Written.{joined}
@@ -72,25 +72,25 @@ stopped_more stop.Failed given more first now waiting s = cut_more given more fi
 
 -- the step at a place stopped
 pub steps_stopped : (e : Stop) (given : List ℕ) (i count x y : ℕ) (first now : Option (List ℕ)) (waiting : List ℕ) → i < count → y ≡ state_behind i x
-    → GatheredBy (let r : Result Unit Stop = Err e in r) ((given ++ flat_map event (steps i x)) ++ flat_map event (step_events y)) first now waiting
-    → GatheredBy (let r : Result Unit Stop = Err e in r) (given ++ flat_map event (steps count x)) first now waiting
+    → GatheredBy (let r : Result Unit Stop = Err e in r) ((given ++ flat_map (event form) (steps i x)) ++ flat_map (event form) (step_events y)) first now waiting
+    → GatheredBy (let r : Result Unit Stop = Err e in r) (given ++ flat_map (event form) (steps count x)) first now waiting
 steps_stopped e given i count x y first now waiting inside at stopped =
-    let done = flat_map event (steps i x) in
-    let this = flat_map event (step_events (state_behind i x)) in
-    let more = flat_map event (steps (count - suc i) (step_state (state_behind i x))) in
-    let here = subst (λ (z : ℕ). GatheredBy (let r : Result Unit Stop = Err e in r) ((given ++ done) ++ flat_map event (step_events z)) first now waiting) at stopped in
+    let done = flat_map (event form) (steps i x) in
+    let this = flat_map (event form) (step_events (state_behind i x)) in
+    let more = flat_map (event form) (steps (count - suc i) (step_state (state_behind i x))) in
+    let here = subst (λ (z : ℕ). GatheredBy (let r : Result Unit Stop = Err e in r) ((given ++ done) ++ flat_map (event form) (step_events z)) first now waiting) at stopped in
     subst (λ (all : List ℕ). GatheredBy (let r : Result Unit Stop = Err e in r) all first now waiting)
     (append_assoc (given ++ done) this more ∙ append_assoc given done (this ++ more) ∙ ap (λ (t : List ℕ). given ++ t) (sym (steps_around i count x inside)))
     (stopped_more e ((given ++ done) ++ this) more first now waiting here)
 
 -- the step at a place was gathered
 pub steps_gathered : (given : List ℕ) (i x y : ℕ) (first now : Option (List ℕ)) (waiting : List ℕ) → y ≡ state_behind i x
-    → Gathered ((given ++ flat_map event (steps i x)) ++ flat_map event (step_events y)) first now waiting
-    → Gathered (given ++ flat_map event (steps (i + 1) x)) first now waiting
+    → Gathered ((given ++ flat_map (event form) (steps i x)) ++ flat_map (event form) (step_events y)) first now waiting
+    → Gathered (given ++ flat_map (event form) (steps (i + 1) x)) first now waiting
 steps_gathered given i x y first now waiting at more =
     subst (λ (all : List ℕ). Gathered all first now waiting)
-    (append_assoc given (flat_map event (steps i x)) (flat_map event (step_events y))
-    ∙ ap (λ (t : List ℕ). given ++ t) (ap (λ (z : ℕ). flat_map event (steps i x) ++ flat_map event (step_events z)) at ∙ sym (steps_more i x))) more
+    (append_assoc given (flat_map (event form) (steps i x)) (flat_map (event form) (step_events y))
+    ∙ ap (λ (t : List ℕ). given ++ t) (ap (λ (z : ℕ). flat_map (event form) (steps i x) ++ flat_map (event form) (step_events z)) at ∙ sym (steps_more i x))) more
 
 -- ---- the end
 
@@ -107,26 +107,26 @@ short_cut given waiting first now then g cut = subst (λ (b : List ℕ). AddsFro
 -- ---- a session
 
 abbrev pub head : List ℕ
-head = spelling.header header ++ flat_map event opening
+head = spelling.header form header ++ flat_map (event form) opening
 
-whole : (number count : ℕ) → (head ++ flat_map event (steps count number)) ++ end_byte ∷ [] ≡ generated number count
+whole : (number count : ℕ) → (head ++ flat_map (event form) (steps count number)) ++ end_byte ∷ [] ≡ generated number count
 whole number count =
-    let body = flat_map event (steps count number) in
-    append_assoc head body (end_byte ∷ []) ∙ append_assoc (spelling.header header) (flat_map event opening) (body ++ end_byte ∷ []) ∙ joined number count
+    let body = flat_map (event form) (steps count number) in
+    append_assoc head body (end_byte ∷ []) ∙ append_assoc (spelling.header form header) (flat_map (event form) opening) (body ++ end_byte ∷ []) ∙ joined number count
 
 module _ (number count : ℕ) (h : Header) (events : List Event) (is : h ≡ header) (are : events ≡ opening) (first : Option (List ℕ)) (old : List ℕ) (none : old ≡ []) where
   abbrev body : List ℕ
-  body = flat_map event (steps count number)
+  body = flat_map (event form) (steps count number)
 
-  head_is : spelling.header h ++ flat_map event events ≡ head
-  head_is = ap (λ (g : Header). spelling.header g ++ flat_map event events) is ∙ ap (λ (es : List Event). spelling.header header ++ flat_map event es) are
+  head_is : spelling.header form h ++ flat_map (event form) events ≡ head
+  head_is = ap (λ (g : Header). spelling.header form g ++ flat_map (event form) events) is ∙ ap (λ (es : List Event). spelling.header form header ++ flat_map (event form) es) are
 
-  pub head_gathered : (new : List ℕ) → (let o : Option (List ℕ) = Some new in o) ≡ after_adding (Some old) (spelling.header h ++ flat_map event events) → Gathered head first first new
-  head_gathered new more = subst (λ (b : List ℕ). Gathered b first first new) head_is (gathers [] (spelling.header h ++ flat_map event events) old new first first (nothing first old none) more)
+  pub head_gathered : (new : List ℕ) → (let o : Option (List ℕ) = Some new in o) ≡ after_adding (Some old) (spelling.header form h ++ flat_map (event form) events) → Gathered head first first new
+  head_gathered new more = subst (λ (b : List ℕ). Gathered b first first new) head_is (gathers [] (spelling.header form h ++ flat_map (event form) events) old new first first (nothing first old none) more)
 
-  pub head_stopped : (new : List ℕ) → AddsFront (spelling.header h ++ flat_map event events) (Some old) (Some new) → GatheredBy (let r : Result Unit Stop = Err stop.NoMemory in r) (generated number count) first first new
+  pub head_stopped : (new : List ℕ) → AddsFront (spelling.header form h ++ flat_map (event form) events) (Some old) (Some new) → GatheredBy (let r : Result Unit Stop = Err stop.NoMemory in r) (generated number count) first first new
   head_stopped new cut =
-      let here = subst (λ (b : List ℕ). GatheredBy (let r : Result Unit Stop = Err stop.NoMemory in r) b first first new) head_is (some_gathered [] (spelling.header h ++ flat_map event events) old new first first (nothing first old none) cut) in
+      let here = subst (λ (b : List ℕ). GatheredBy (let r : Result Unit Stop = Err stop.NoMemory in r) b first first new) head_is (some_gathered [] (spelling.header form h ++ flat_map (event form) events) old new first first (nothing first old none) cut) in
       subst (λ (b : List ℕ). GatheredBy (let r : Result Unit Stop = Err stop.NoMemory in r) b first first new) (whole number count)
       (stopped_more stop.NoMemory (head ++ body) (end_byte ∷ []) first first new (stopped_more stop.NoMemory head body first first new here))
 
@@ -141,5 +141,5 @@ module _ (number count : ℕ) (h : Header) (events : List Event) (is : h ≡ hea
 
 -- the state that the steps begin with
 pub steps_from : {A : Type 0} (r : Result A Stop) (count number state : ℕ) (given : List ℕ) (first now : Option (List ℕ)) (waiting : List ℕ) → state ≡ number
-    → GatheredBy r (given ++ flat_map event (steps count state)) first now waiting → GatheredBy r (given ++ flat_map event (steps count number)) first now waiting
-steps_from r count number state given first now waiting same gathered = subst (λ (x : ℕ). GatheredBy r (given ++ flat_map event (steps count x)) first now waiting) same gathered
+    → GatheredBy r (given ++ flat_map (event form) (steps count state)) first now waiting → GatheredBy r (given ++ flat_map (event form) (steps count number)) first now waiting
+steps_from r count number state given first now waiting same gathered = subst (λ (x : ℕ). GatheredBy r (given ++ flat_map (event form) (steps count x)) first now waiting) same gathered

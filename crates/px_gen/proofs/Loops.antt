@@ -6,7 +6,7 @@ use Rattle.std.specs.List.{flat_map}
 use Rattle.px_session.specs.declared.event.Event.{Event}
 use Rattle.px_session.specs.Spelling.{event}
 use Rattle.px_gen.specs.Numbers.{next_state, next_number, state_after, sample, samples}
-use Rattle.px_gen.specs.Generator.{step_events, step_state, steps}
+use Rattle.px_gen.specs.Generator.{form, step_events, step_state, steps}
 
 samples_suc : (n x : ℕ) → samples (suc n) x ≡ samples n x ++ sample (next_number (state_after n x))
 samples_suc zero x = append-nil (sample (next_number x))
@@ -51,18 +51,18 @@ steps_split (suc i) m x =
     ∙ sym (append_assoc (step_events x) (steps i (step_state x)) (steps m (state_behind i (step_state x))))
 
 -- the bytes of the steps before a place, of the step at it, and of those behind it
-pub steps_around : (i count x : ℕ) → i < count → flat_map event (steps count x) ≡ flat_map event (steps i x) ++ (flat_map event (step_events (state_behind i x)) ++ flat_map event (steps (count - suc i) (step_state (state_behind i x))))
+pub steps_around : (i count x : ℕ) → i < count → flat_map (event form) (steps count x) ≡ flat_map (event form) (steps i x) ++ (flat_map (event form) (step_events (state_behind i x)) ++ flat_map (event form) (steps (count - suc i) (step_state (state_behind i x))))
 steps_around i count x inside =
     let m = count - suc i in
     let whole : i + suc (count - suc i) ≡ count = omega arith in
     let y = state_behind i x in
-    ap (λ (n : ℕ). flat_map event (steps n x)) (sym whole)
-    ∙ ap (λ (es : List Event). flat_map event es) (steps_split i (suc m) x)
-    ∙ flat_map-append event (steps i x) (steps (suc m) y)
-    ∙ ap (λ (t : List ℕ). flat_map event (steps i x) ++ t) (flat_map-append event (step_events y) (steps m (step_state y)))
+    ap (λ (n : ℕ). flat_map (event form) (steps n x)) (sym whole)
+    ∙ ap (λ (es : List Event). flat_map (event form) es) (steps_split i (suc m) x)
+    ∙ flat_map-append (event form) (steps i x) (steps (suc m) y)
+    ∙ ap (λ (t : List ℕ). flat_map (event form) (steps i x) ++ t) (flat_map-append (event form) (step_events y) (steps m (step_state y)))
 
 -- the bytes of one step more
-pub steps_more : (i x : ℕ) → flat_map event (steps (i + 1) x) ≡ flat_map event (steps i x) ++ flat_map event (step_events (state_behind i x))
+pub steps_more : (i x : ℕ) → flat_map (event form) (steps (i + 1) x) ≡ flat_map (event form) (steps i x) ++ flat_map (event form) (step_events (state_behind i x))
 steps_more i x =
-    ap (λ (es : List Event). flat_map event es) (steps_split i 1 x ∙ ap (λ (es : List Event). steps i x ++ es) (append-nil (step_events (state_behind i x))))
-    ∙ flat_map-append event (steps i x) (step_events (state_behind i x))
+    ap (λ (es : List Event). flat_map (event form) es) (steps_split i 1 x ∙ ap (λ (es : List Event). steps i x ++ es) (append-nil (step_events (state_behind i x))))
+    ∙ flat_map-append (event form) (steps i x) (step_events (state_behind i x))

@@ -9,7 +9,7 @@ use Rattle.px_session.specs.Spelling.{event, end_byte}
 use Rattle.px_session.specs.Spelling as spelling
 use Rattle.px_session.proofs.Added.{front_then, both_added}
 use Rattle.px_gen.specs.declared.writing.Stop.{Stop}
-use Rattle.px_gen.specs.Generator.{header, opening, steps, generated}
+use Rattle.px_gen.specs.Generator.{form, header, opening, steps, generated}
 use Rattle.px_gen.specs.Writing.{Writes}
 
 -- a front of the first part was written
@@ -27,9 +27,9 @@ goes_on (Ok done) first second old mid now written more = both_added first secon
 goes_on (Err stop) first second old mid now written more =
     front_then first second [] (first ++ second) old mid now written more (ap (λ (t : List ℕ). first ++ t) (sym (append-nil second)))
 
-pub joined : (number count : ℕ) → spelling.header header ++ (flat_map event opening ++ (flat_map event (steps count number) ++ end_byte ∷ [])) ≡ generated number count
+pub joined : (number count : ℕ) → spelling.header form header ++ (flat_map (event form) opening ++ (flat_map (event form) (steps count number) ++ end_byte ∷ [])) ≡ generated number count
 unfolding generated spelling.header event spelling.sink
 joined number count =
-    ap (λ (t : List ℕ). spelling.header header ++ t)
-    (sym (append_assoc (flat_map event opening) (flat_map event (steps count number)) (end_byte ∷ []))
-    ∙ ap (λ (t : List ℕ). t ++ end_byte ∷ []) (sym (flat_map-append event opening (steps count number))))
+    ap (λ (t : List ℕ). spelling.header form header ++ t)
+    (sym (append_assoc (flat_map (event form) opening) (flat_map (event form) (steps count number)) (end_byte ∷ []))
+    ∙ ap (λ (t : List ℕ). t ++ end_byte ∷ []) (sym (flat_map-append (event form) opening (steps count number))))

@@ -9,9 +9,15 @@ use Rattle.px_header.specs.declared.header.SinkSpec.{SinkSpec}
 use Rattle.px_header.specs.declared.header.Header.{Header}
 use Rattle.px_session.specs.declared.event.Event.{Event}
 use Rattle.px_session.specs.declared.event.Event.TheVariants.{Connect, Bytes, Turn}
-use Rattle.px_session.specs.Spelling.{session}
+use Rattle.px_session.specs.declared.form.Form.{Form}
+use Rattle.px_session.specs.declared.form.Form.TheVariants.{One}
+use Rattle.px_session.specs.Spelling.{spelled}
 use Rattle.px_gen.specs.Numbers.{next_state, next_number, state_after, samples}
 use Rattle.px_gen.specs.Client.{cookie, sink_of, map_of, auth_packet, create_packet, volume_packet, cork_packet, control_frame, data_frame}
+
+-- the form of the session
+abbrev pub form : Form
+form = One
 
 -- ---- before the steps
 
@@ -93,4 +99,4 @@ steps (suc n) x = step_events x ++ steps n (step_state x)
 -- ---- the session
 
 unfoldable pub generated : ℕ → ℕ → List ℕ
-generated number count = session header (opening ++ steps count number)
+generated number count = spelled form header (opening ++ steps count number)

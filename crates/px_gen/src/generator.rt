@@ -5,13 +5,13 @@ ghost use Rattle.std.specs.List.{flat_map, AllByRecursion};
 ghost use Rattle.px_session.specs.Spelling.{event};
 ghost use Rattle.px_session.specs.Spelling as spelling;
 ghost use Rattle.px_session.specs.Writing.{FitsHeader, FitsEvent};
-ghost use Rattle.px_gen.specs.Generator.{step_events, step_state, steps, generated};
+ghost use Rattle.px_gen.specs.Generator.{form, step_events, step_state, steps, generated};
 ghost use Rattle.px_gen.specs.Writing.{Writes, Counts, Gathered, GatheredBy, Leaves, Faults};
 
 use crate::numbers::Numbers;
 use crate::opening::{header, opening};
 use crate::step::step;
-use crate::writing::{Stop, write_events};
+use crate::writing::{FORM, Stop, write_events};
 use px_ends::{Pieces, Sink};
 use px_header::Header;
 use px_session::{Event, write_end, write_header};
@@ -21,7 +21,7 @@ use std::alloc::Global;
 // Gathers the events of the next step.
 #[tactic(auto, using(crate::proofs::Gathering::adds_none, crate::proofs::Fitting::step_fits))]
 fn gather_step(alloc: Global, numbers: &mut Numbers, pieces: &mut Pieces) -> Result<(), Stop>
-    ensures bytes { Writes result (flat_map event (step_events numbers.old.state)) (Some pieces.old.bytes) (Some pieces.new.bytes) }
+    ensures bytes { Writes result (flat_map (event form) (step_events numbers.old.state)) (Some pieces.old.bytes) (Some pieces.new.bytes) }
     ensures state { OnOk result (numbers.new.state ≡ step_state numbers.old.state) }
 {
     let Ok(events) = step(alloc, numbers) else {
@@ -52,7 +52,7 @@ fn write_step<K: Sink>(
     out: &mut K,
 ) -> Result<(), Stop>
     ensures bytes { (first : Option (List ℕ)) (given : List ℕ) → Gathered given first (K.held out.old) pieces.old.bytes
-        → GatheredBy result (given ++ flat_map event (step_events numbers.old.state)) first (K.held out.new) pieces.new.bytes }
+        → GatheredBy result (given ++ flat_map (event form) (step_events numbers.old.state)) first (K.held out.new) pieces.new.bytes }
     ensures count { Counts result (K.faults out.old) (K.faults out.new) }
     ensures state { OnOk result (numbers.new.state ≡ step_state numbers.old.state) }
 {
@@ -72,7 +72,7 @@ fn write_steps<K: Sink>(
     out: &mut K,
 ) -> Result<(), Stop>
     ensures bytes { (first : Option (List ℕ)) (given : List ℕ) → Gathered given first (K.held out.old) pieces.old.bytes
-        → GatheredBy result (given ++ flat_map event (steps count numbers.old.state)) first (K.held out.new) pieces.new.bytes }
+        → GatheredBy result (given ++ flat_map (event form) (steps count numbers.old.state)) first (K.held out.new) pieces.new.bytes }
     ensures count { Counts result (K.faults out.old) (K.faults out.new) }
 {
     for _ in 0..count {
@@ -87,10 +87,10 @@ fn write_steps<K: Sink>(
 #[tactic(auto, using(crate::proofs::Written::stops_first, crate::proofs::Written::goes_on))]
 fn write_front<K: Sink>(out: &mut K, header: &Header, events: &[Event]) -> Result<(), Stop>
     requires header { FitsHeader header.now }
-    requires events { AllByRecursion FitsEvent events.now }
-    ensures bytes { Writes result (spelling.header header.now ++ flat_map event events.now) (K.held out.old) (K.held out.new) }
+    requires events { AllByRecursion (FitsEvent form) events.now }
+    ensures bytes { Writes result (spelling.header form header.now ++ flat_map (event form) events.now) (K.held out.old) (K.held out.new) }
 {
-    match write_header(out, header) {
+    match write_header(FORM, out, header) {
         Ok(()) => write_events(out, events),
         Err(_) => Err(Stop::Failed),
     }

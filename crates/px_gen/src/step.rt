@@ -53,7 +53,7 @@ pub(crate) fn step(alloc: Global, numbers: &mut Numbers) -> Mem<[Event; 2]>
         Event::Bytes(ConnId(conn), frame),
         Event::Turn {
             sink: sink_of(conn),
-            frames: FRAMES,
+            frames: u64::from(FRAMES),
             take: 1,
         },
     ])

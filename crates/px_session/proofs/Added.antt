@@ -9,7 +9,8 @@ use Rattle.px_ends.specs.Whole.{AddsFront}
 use Rattle.px_ends.proofs.VisibleBytes.{adding_both, adding_nothing}
 use Rattle.px_header.specs.declared.header.SinkSpec.{SinkSpec}
 use Rattle.px_header.specs.declared.header.Header.{Header}
-use Rattle.px_session.specs.Spelling.{sink, header}
+use Rattle.px_session.specs.declared.form.Form.{Form}
+use Rattle.px_session.specs.Spelling.{magic, sink, header}
 
 -- a front of the second piece was written behind the first, so a front of the whole was
 pub front_then : (done piece more whole : List ℕ) (old mid new : Option (List ℕ)) → mid ≡ after_adding old done → AddsFront piece mid new → whole ≡ done ++ (piece ++ more) → AddsFront whole old new
@@ -44,33 +45,35 @@ module _ {X : Type 0} (f : X → List ℕ) where
       ∙ ap (λ (rest : List X). flat_map f (take i xs) ++ flat_map f rest) (drop-cons xs i d inside)
 
 -- what stands before the sinks of a header, piece by piece
-abbrev pub head_of : List ℕ → ℕ → List ℕ
-head_of cookie count = 0x50 ∷ 0x52 ∷ 0x53 ∷ 0x31 ∷ (cookie ++ (count ∷ []))
+abbrev pub head_of : List ℕ → List ℕ → ℕ → List ℕ
+head_of word cookie count = word ++ (cookie ++ (count ∷ []))
 
-header_regrouped : (h : Header) → head_of h.cookie (length h.sinks) ++ flat_map sink h.sinks ≡ header h
+header_regrouped : (form : Form) (h : Header) → head_of (magic form) h.cookie (length h.sinks) ++ flat_map sink h.sinks ≡ header form h
 unfolding header
-header_regrouped h = ap (λ (rest : List ℕ). 0x50 ∷ 0x52 ∷ 0x53 ∷ 0x31 ∷ rest) (append_assoc h.cookie (length h.sinks ∷ []) (flat_map sink h.sinks))
+header_regrouped form h = ap (λ (rest : List ℕ). magic form ++ rest) (append_assoc h.cookie (length h.sinks ∷ []) (flat_map sink h.sinks))
 
-head_is : (h : Header) (cookie : List ℕ) (count : ℕ) (sinks : List SinkSpec) → cookie ≡ h.cookie → count ≡ length h.sinks → sinks ≡ h.sinks → head_of cookie count ++ flat_map sink sinks ≡ header h
-head_is h cookie count sinks cookie_is count_is sinks_is =
-    ap (λ (c : List ℕ). head_of c count ++ flat_map sink sinks) cookie_is
-    ∙ ap (λ (n : ℕ). head_of h.cookie n ++ flat_map sink sinks) count_is
-    ∙ ap (λ (ss : List SinkSpec). head_of h.cookie (length h.sinks) ++ flat_map sink ss) sinks_is
-    ∙ header_regrouped h
+module _ (form : Form) (h : Header) (word cookie : List ℕ) (count : ℕ) (word_is : word ≡ magic form) (cookie_is : cookie ≡ h.cookie) (count_is : count ≡ length h.sinks) where
+  head_is : (sinks : List SinkSpec) → sinks ≡ h.sinks → head_of word cookie count ++ flat_map sink sinks ≡ header form h
+  head_is sinks sinks_is =
+      ap (λ (w : List ℕ). head_of w cookie count ++ flat_map sink sinks) word_is
+      ∙ ap (λ (c : List ℕ). head_of (magic form) c count ++ flat_map sink sinks) cookie_is
+      ∙ ap (λ (n : ℕ). head_of (magic form) h.cookie n ++ flat_map sink sinks) count_is
+      ∙ ap (λ (ss : List SinkSpec). head_of (magic form) h.cookie (length h.sinks) ++ flat_map sink ss) sinks_is
+      ∙ header_regrouped form h
 
--- a header was written: what stands before the sinks, and then these
-pub header_added : (h : Header) (cookie : List ℕ) (count : ℕ) (sinks : List SinkSpec) (old mid new : Option (List ℕ)) → cookie ≡ h.cookie → count ≡ length h.sinks → sinks ≡ h.sinks → mid ≡ after_adding old (head_of cookie count) → new ≡ after_adding mid (flat_map sink sinks) → new ≡ after_adding old (header h)
-header_added h cookie count sinks old mid new cookie_is count_is sinks_is first second =
-    both_added (head_of cookie count) (flat_map sink sinks) old mid new first second
-    ∙ ap (after_adding old) (head_is h cookie count sinks cookie_is count_is sinks_is)
+  -- a header was written: what stands before the sinks, and then these
+  pub header_added : (sinks : List SinkSpec) (old mid new : Option (List ℕ)) → sinks ≡ h.sinks → mid ≡ after_adding old (head_of word cookie count) → new ≡ after_adding mid (flat_map sink sinks) → new ≡ after_adding old (header form h)
+  header_added sinks old mid new sinks_is first second =
+      both_added (head_of word cookie count) (flat_map sink sinks) old mid new first second
+      ∙ ap (after_adding old) (head_is sinks sinks_is)
 
--- a front of what stands before the sinks was written
-pub header_stopped : (h : Header) (cookie : List ℕ) (count : ℕ) (old new : Option (List ℕ)) → cookie ≡ h.cookie → count ≡ length h.sinks → AddsFront (head_of cookie count) old new → AddsFront (header h) old new
-header_stopped h cookie count old new cookie_is count_is stopped =
-    front_then [] (head_of cookie count) (flat_map sink h.sinks) (header h) old old new (sym (adding_nothing old)) stopped (sym (head_is h cookie count h.sinks cookie_is count_is refl))
+  -- a front of what stands before the sinks was written
+  pub header_stopped : (old new : Option (List ℕ)) → AddsFront (head_of word cookie count) old new → AddsFront (header form h) old new
+  header_stopped old new stopped =
+      front_then [] (head_of word cookie count) (flat_map sink h.sinks) (header form h) old old new (sym (adding_nothing old)) stopped (sym (head_is h.sinks refl))
 
--- a front of the sinks was written behind what stands before them
-pub sinks_stopped : (h : Header) (cookie : List ℕ) (count : ℕ) (sinks : List SinkSpec) (old mid new : Option (List ℕ)) → cookie ≡ h.cookie → count ≡ length h.sinks → sinks ≡ h.sinks → mid ≡ after_adding old (head_of cookie count) → AddsFront (flat_map sink sinks) mid new → AddsFront (header h) old new
-sinks_stopped h cookie count sinks old mid new cookie_is count_is sinks_is first stopped =
-    front_then (head_of cookie count) (flat_map sink sinks) [] (header h) old mid new first stopped
-    (sym (ap (λ (rest : List ℕ). head_of cookie count ++ rest) (append-nil (flat_map sink sinks)) ∙ head_is h cookie count sinks cookie_is count_is sinks_is))
+  -- a front of the sinks was written behind what stands before them
+  pub sinks_stopped : (sinks : List SinkSpec) (old mid new : Option (List ℕ)) → sinks ≡ h.sinks → mid ≡ after_adding old (head_of word cookie count) → AddsFront (flat_map sink sinks) mid new → AddsFront (header form h) old new
+  sinks_stopped sinks old mid new sinks_is first stopped =
+      front_then (head_of word cookie count) (flat_map sink sinks) [] (header form h) old mid new first stopped
+      (sym (ap (λ (rest : List ℕ). head_of word cookie count ++ rest) (append-nil (flat_map sink sinks)) ∙ head_is sinks sinks_is))

@@ -1,12 +1,15 @@
 -- Fields have one spelling for each value.
 use Rattle.std.proofs.Common.{◌≡◌, ℕ, ◌+◌, ◌^◌, ◌<◌, ◌≤◌, ltb, Bool, true, false, List, [], ◌∷◌, ◌++◌, length, get_or, take, drop, refl, sym, ap, subst, ◌∙◌, inl, inr, arith, append_assoc, length-append, length-take, add-zero}
-use Rattle.std.specs.Int.{w32, from_be_bytes}
+use Rattle.std.specs.Int.{Width, w32, w64, byte_len, to_be_bytes, from_be_bytes}
 use Rattle.std.proofs.lemmas.Bool.{ltb-false, le-ltb, cases_lt}
 use Rattle.std.proofs.lemmas.List.{take-append-drop, take_at, drop_at, get_or-drop, get_or-take, get_or_past, append-nil}
-use Rattle.std.proofs.lemmas.Nat.{be_bytes_4, from_be_bytes-to_be_bytes_4}
+use Rattle.std.proofs.lemmas.Nat.{be_bytes_4, be_bytes_8, from_be_bytes-to_be_bytes_4, from_be_bytes-to_be_bytes_8}
+use Rattle.px_session.specs.declared.form.Form.{Form}
+use Rattle.px_session.specs.declared.form.Form.TheVariants.{One, Two}
+use Rattle.px_session.specs.Form.{width, IsCount}
 use Rattle.px_session.specs.Place.{Place, Reading, past, limit, available, short_at, bytes_at, done, go_on, and_then}
-use Rattle.px_session.specs.Field.{byte_at, word_at, broken_at, checked, ruled}
-use Rattle.px_session.specs.Spelling.{word}
+use Rattle.px_session.specs.Field.{byte_at, number_at, word_at, count_at, broken_at, checked, ruled}
+use Rattle.px_session.specs.Spelling.{word, count}
 use Rattle.px_session.specs.Law.{AreBytes, Stands, behind, IsLaw}
 use Rattle.px_session.proofs.Steps.{go_on_ok, test_ok, guard_ok}
 use Rattle.px_session.proofs.Steady.{answer, ok_is}
@@ -150,30 +153,69 @@ byte_law =
           raw.again value bytes at rest (record { front = value ∷ []; front_bytes = value ∷ []; back_bytes = []; first = (refl, refl); next = (refl, refl); joined = s.1 }) fits;
     }
 
-abbrev pub Word : ℕ → List ℕ → Type 0
-Word value bytes = (value < 2 ^ 32) × (bytes ≡ word value)
+-- numbers of a width: which ones fit, and that their bytes and they are the same thing
+pub record IsWide (w : Width) (Fits : ℕ → Type 0) : Type 0 where
+  pub size : (n : ℕ) → length (to_be_bytes w n) ≡ byte_len w
+  pub back : (bytes : List ℕ) → length bytes ≡ byte_len w → AreBytes bytes → to_be_bytes w (from_be_bytes w bytes) ≡ bytes
+  pub again : (n : ℕ) → Fits n → from_be_bytes w (to_be_bytes w n) ≡ n
+  pub fits : (bytes : List ℕ) → AreBytes bytes → Fits (from_be_bytes w bytes)
 
-four_bytes : (value : ℕ) (bytes : List ℕ) → InTurn (Raw 4) (λ b. Nothing (from_be_bytes w32 b)) value bytes → (length bytes ≡ 4) × (value ≡ from_be_bytes w32 bytes)
-four_bytes value bytes s =
-    let same : bytes ≡ s.front = s.joined ∙ ap (λ (b : List ℕ). s.front_bytes ++ b) s.next.1 ∙ append-nil s.front_bytes ∙ s.first.1 in
-    (ap (length {A = ℕ}) same ∙ s.first.0, s.next.0 ∙ ap (from_be_bytes w32) (sym same))
+wide32 : IsWide w32 (λ n. n < 2 ^ 32)
+wide32 = record {
+  size = λ n. refl;
+  back = λ bytes long fits. be_bytes_4 bytes _ long fits refl;
+  again = λ n lt. from_be_bytes-to_be_bytes_4 n lt;
+  fits = λ bytes fits. omega (arith, fits 0, fits 1, fits 2, fits 3);
+}
+
+wide64 : IsWide w64 (λ n. n < 2 ^ 64)
+wide64 = record {
+  size = λ n. refl;
+  back = λ bytes long fits. be_bytes_8 bytes _ long fits refl;
+  again = λ n lt. from_be_bytes-to_be_bytes_8 n lt;
+  fits = λ bytes fits. omega (arith, fits 0, fits 1, fits 2, fits 3, fits 4, fits 5, fits 6, fits 7);
+}
+
+wide : (form : Form) → IsWide (width form) (IsCount form)
+wide One = wide32
+wide Two = wide64
 
 AreBytes-front : (x y rest : List ℕ) → rest ≡ x ++ y → AreBytes rest → AreBytes x
 AreBytes-front x y rest joined h =
     let front : take (length x) rest ≡ x = ap (take (length x)) joined ∙ take_at x y (length x) refl in
     subst AreBytes front (AreBytes-take (length x) rest h)
 
+abbrev pub Number : Width → (ℕ → Type 0) → ℕ → List ℕ → Type 0
+Number w Fits value bytes = Fits value × (bytes ≡ to_be_bytes w value)
+
+module _ (w : Width) (Fits : ℕ → Type 0) (is : IsWide w Fits) where
+  number_bytes : (value : ℕ) (bytes : List ℕ) → InTurn (Raw (byte_len w)) (λ b. Nothing (from_be_bytes w b)) value bytes → (length bytes ≡ byte_len w) × (value ≡ from_be_bytes w bytes)
+  number_bytes value bytes s =
+      let same : bytes ≡ s.front = s.joined ∙ ap (λ (b : List ℕ). s.front_bytes ++ b) s.next.1 ∙ append-nil s.front_bytes ∙ s.first.1 in
+      (ap (length {A = ℕ}) same ∙ s.first.0, s.next.0 ∙ ap (from_be_bytes w) (sym same))
+
+  number_law : IsLaw (number_at w) (Number w Fits)
+  unfolding number_at
+  number_law =
+      let raw = then_law (bytes_at (byte_len w)) (λ bytes. done (from_be_bytes w bytes)) (bytes_law (byte_len w)) (λ bytes. done_law (from_be_bytes w bytes)) in
+      record {
+        found = λ place y h e. (
+            let a = raw.found place y h e in
+            let b = number_bytes y.0 a.0 a.1 in
+            let fits = AreBytes-front a.0 y.1.rest place.rest a.2.joined h in
+            (a.0, (subst Fits (sym b.1) (is.fits a.0 fits), sym (ap (to_be_bytes w) b.1 ∙ is.back a.0 b.0 fits)), a.2));
+        again = λ value bytes at rest s fits.
+            raw.again value bytes at rest (record { front = to_be_bytes w value; front_bytes = to_be_bytes w value; back_bytes = []; first = (is.size value, refl); next = (sym (is.again value s.0), refl); joined = s.1 ∙ sym (append-nil (to_be_bytes w value)) }) fits;
+      }
+
+abbrev pub Word : ℕ → List ℕ → Type 0
+Word value bytes = (value < 2 ^ 32) × (bytes ≡ word value)
+
 pub word_law : IsLaw word_at Word
-unfolding word_at
-word_law =
-    let raw = then_law (bytes_at 4) (λ bytes. done (from_be_bytes w32 bytes)) (bytes_law 4) (λ bytes. done_law (from_be_bytes w32 bytes)) in
-    record {
-      found = λ place y h e. (
-          let a = raw.found place y h e in
-          let is = four_bytes y.0 a.0 a.1 in
-          let fits = AreBytes-front a.0 y.1.rest place.rest a.2.joined h in
-          let small : from_be_bytes w32 a.0 < 2 ^ 32 = omega (arith, fits 0, fits 1, fits 2, fits 3) in
-          (a.0, (subst (λ (n : ℕ). n < 2 ^ 32) (sym is.1) small, sym (ap word is.1 ∙ be_bytes_4 a.0 _ is.0 fits refl)), a.2));
-      again = λ value bytes at rest s fits.
-          raw.again value bytes at rest (record { front = word value; front_bytes = word value; back_bytes = []; first = (refl, refl); next = (sym (from_be_bytes-to_be_bytes_4 value s.0), refl); joined = s.1 }) fits;
-    }
+word_law = number_law w32 (λ n. n < 2 ^ 32) wide32
+
+abbrev pub Count : Form → ℕ → List ℕ → Type 0
+Count form value bytes = IsCount form value × (bytes ≡ count form value)
+
+pub count_law : (form : Form) → IsLaw (count_at form) (Count form)
+count_law form = number_law (width form) (IsCount form) (wide form)

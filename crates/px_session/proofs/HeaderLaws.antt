@@ -1,5 +1,5 @@
 -- A header has one spelling.
-use Rattle.std.proofs.Common.{◌≡◌, ℕ, ◌<◌, Bool, true, false, cond, List, [], ◌∷◌, ◌++◌, length, Option, Some, None, find, Ok, refl, sym, ap, subst, ◌∙◌, arith, nat_le}
+use Rattle.std.proofs.Common.{◌≡◌, ℕ, ◌<◌, Bool, true, false, cond, List, [], ◌∷◌, ◌++◌, length, Option, Some, None, find, Ok, refl, sym, ap, subst, ◌∙◌, ◌⊎◌, inl, inr, arith, nat_le}
 use Rattle.std.specs.Prelude.{◌&&◌, ◌==◌}
 use Rattle.std.specs.List.{AllByRecursion}
 use Rattle.std.proofs.lemmas.Bool.{leb-true, le-leb, eqb-true}
@@ -9,10 +9,13 @@ use Rattle.px_sample.specs.declared.format.Format.TheVariants.{U8, Alaw, Ulaw, S
 use Rattle.px_sample.specs.declared.spec.Spec.{Spec}
 use Rattle.px_sample.specs.Format.{code_of, IsLinear}
 use Rattle.px_header.specs.declared.header.SinkSpec.{SinkSpec}
+use Rattle.px_session.specs.declared.form.Form.{Form}
+use Rattle.px_session.specs.declared.form.Form.TheVariants.{One, Two}
+use Rattle.px_session.specs.Form.{letter}
 use Rattle.px_session.specs.Place.{Place, Reading, bytes_at}
 use Rattle.px_session.specs.Field.{byte_at, word_at, ruled}
 use Rattle.px_header.specs.HeaderRules.{is_from_to, is_name, is_new, formats, format_of, IsFromTo}
-use Rattle.px_session.specs.HeaderReading.{no_magic, compared, letter_at, letters_at, magic_at, name_at, known, format_at, spec_at}
+use Rattle.px_session.specs.HeaderReading.{no_magic, compared, letter_at, form_of, formed, last_at, letters_at, magic_at, name_at, known, format_at, spec_at}
 use Rattle.px_session.specs.Spelling.{word, magic}
 use Rattle.px_session.specs.Law.{Stands, IsLaw}
 use Rattle.px_session.proofs.Steps.{go_on_ok, test_ok}
@@ -34,7 +37,7 @@ within low high n e = let b = both_true (nat_le low n) (nat_le n high) e in (leb
 pub is_within : (low high n : ℕ) → IsFromTo low high n → is_from_to low high n ≡ true
 is_within low high n p = and_true (nat_le low n) (nat_le n high) (le-leb low n p.0) (le-leb n high p.1)
 
--- ---- the word PRS1
+-- ---- the words PRS1 and PRS2
 
 at_law : {A : Type 0} {Spells : A → List ℕ → Type 0} (read : ℕ → Reading A) → ((at : ℕ) → IsLaw (read at) Spells) → IsLaw (λ place. read place.at place) Spells
 at_law read h = record {
@@ -61,29 +64,75 @@ letter_law start letter small = record {
       rw (byte_law.again letter bytes at rest (small, s.1) fits, same_number letter, s.0) refl;
 }
 
-abbrev pub Magic : ℕ → List ℕ → Type 0
-Magic value bytes = (value ≡ 0x31) × (bytes ≡ magic)
+-- a test that decides between a value and what is found else
+by_test : {A : Type 0} (b : Bool) (x y : A) (rest : Option A) → cond b (Some x) rest ≡ Some y → ((b ≡ true) × (x ≡ y)) ⊎ (rest ≡ Some y)
+by_test true x y rest e = inl (refl, cc)
+by_test false x y rest e = inr e
+
+form_found : (byte : ℕ) (form : Form) → form_of byte ≡ Some form → byte ≡ letter form
+form_found byte form e =
+    elim (by_test (byte == letter One) One form _ e) [
+      | inl p ↦ eqb-true _ _ p.0 ∙ ap letter p.1
+      | inr n ↦ elim (by_test (byte == letter Two) Two form None n) [
+        | inl p ↦ eqb-true _ _ p.0 ∙ ap letter p.1
+        | inr n ↦ absurd (none_found form n)
+      ]
+    ]
+  where
+    none_found : (form : Form) → (let o : Option Form = None in o) ≡ Some form → ⊥
+    none_found form e = cc
+
+form_again : (form : Form) → form_of (letter form) ≡ Some form
+form_again One = refl
+form_again Two = refl
+
+letter_small : (form : Form) → letter form < 256
+letter_small One = omega arith
+letter_small Two = omega arith
+
+abbrev pub Last : Form → List ℕ → Type 0
+Last form bytes = bytes ≡ letter form ∷ []
+
+formed_ok : (start : ℕ) (found : Option Form) (after : Place) (y : Form × Place) → formed start found after ≡ Ok y → (found ≡ Some y.0) × (after ≡ y.1)
+formed_ok start None after y e = absurd cc
+formed_ok start (Some form) after y e = let same = ok_is (form, after) y e in (ap (λ (z : Form × Place). Some z.0) same, ap (λ (z : Form × Place). z.1) same)
+
+last_law : (start : ℕ) → IsLaw (last_at start) Last
+unfolding last_at
+last_law start = record {
+  found = λ place y h e. (
+      let s = go_on_ok (byte_at place) (λ byte. formed start (form_of byte)) y e in
+      let k = formed_ok start (form_of s.0.0) s.0.1 y s.2 in
+      let is = form_found s.0.0 y.0 k.0 in
+      let a = byte_law.found place s.0 h s.1 in
+      (a.0, a.1.1 ∙ ap (λ (n : ℕ). n ∷ []) is, subst (λ (z : Place). Stands a.0 place z) k.1 a.2));
+  again = λ form bytes at rest s fits.
+      rw (byte_law.again (letter form) bytes at rest (letter_small form, s) fits, form_again form) refl;
+}
+
+abbrev pub Magic : Form → List ℕ → Type 0
+Magic form bytes = bytes ≡ magic form
 
 pub magic_law : IsLaw magic_at Magic
 unfolding magic_at letters_at
 magic_law = at_law letters_at (λ start. law_as (letters_at start)
-    (λ value bytes s. (s.next.next.next.0, s.joined ∙ ap (λ (b : List ℕ). b ++ s.back_bytes) s.first.1 ∙ ap (λ (b : List ℕ). (0x50 ∷ []) ++ b) (s.next.joined ∙ ap (λ (b : List ℕ). b ++ s.next.back_bytes) s.next.first.1 ∙ ap (λ (b : List ℕ). (0x52 ∷ []) ++ b) (s.next.next.joined ∙ ap (λ (b : List ℕ). b ++ s.next.next.back_bytes) s.next.next.first.1 ∙ ap (λ (b : List ℕ). (0x53 ∷ []) ++ b) s.next.next.next.1))))
-    (λ value bytes s. record {
+    (λ form bytes s. s.joined ∙ ap (λ (b : List ℕ). b ++ s.back_bytes) s.first.1 ∙ ap (λ (b : List ℕ). (0x50 ∷ []) ++ b) (s.next.joined ∙ ap (λ (b : List ℕ). b ++ s.next.back_bytes) s.next.first.1 ∙ ap (λ (b : List ℕ). (0x52 ∷ []) ++ b) (s.next.next.joined ∙ ap (λ (b : List ℕ). b ++ s.next.next.back_bytes) s.next.next.first.1 ∙ ap (λ (b : List ℕ). (0x53 ∷ []) ++ b) s.next.next.next)))
+    (λ form bytes s. record {
       front = 0x50;
       front_bytes = 0x50 ∷ [];
-      back_bytes = 0x52 ∷ 0x53 ∷ 0x31 ∷ [];
+      back_bytes = 0x52 ∷ 0x53 ∷ letter form ∷ [];
       first = (refl, refl);
-      joined = s.1;
+      joined = s;
       next = record {
         front = 0x52;
         front_bytes = 0x52 ∷ [];
-        back_bytes = 0x53 ∷ 0x31 ∷ [];
+        back_bytes = 0x53 ∷ letter form ∷ [];
         first = (refl, refl);
         joined = refl;
-        next = record { front = 0x53; front_bytes = 0x53 ∷ []; back_bytes = 0x31 ∷ []; first = (refl, refl); joined = refl; next = (s.0, refl) };
+        next = record { front = 0x53; front_bytes = 0x53 ∷ []; back_bytes = letter form ∷ []; first = (refl, refl); joined = refl; next = refl };
       };
     })
-    (then_law (letter_at start 0x50) _ (letter_law start 0x50 (omega arith)) (λ p. then_law (letter_at start 0x52) _ (letter_law start 0x52 (omega arith)) (λ r. then_law (letter_at start 0x53) _ (letter_law start 0x53 (omega arith)) (λ s. letter_law start 0x31 (omega arith))))))
+    (then_law (letter_at start 0x50) _ (letter_law start 0x50 (omega arith)) (λ p. then_law (letter_at start 0x52) _ (letter_law start 0x52 (omega arith)) (λ r. then_law (letter_at start 0x53) _ (letter_law start 0x53 (omega arith)) (λ s. last_law start)))))
 
 -- ---- names
 

@@ -2,6 +2,7 @@
 use Rattle.std.proofs.Common.{◌≡◌, ℕ, List, Ok, refl}
 use Rattle.px_sample.specs.declared.spec.Spec.{Spec}
 use Rattle.px_header.specs.declared.header.SinkSpec.{SinkSpec}
+use Rattle.px_session.specs.declared.form.Form.{Form}
 use Rattle.px_session.specs.Place.{Place, bytes_at, and_then}
 use Rattle.px_session.specs.HeaderReading.{magic_at, name_at, spec_at, sink_at, header_at}
 use Rattle.px_session.specs.HeaderRest.{rest_of_sink_at, rest_of_header_at}
@@ -12,6 +13,6 @@ unfolding sink_at rest_of_sink_at and_then
 sink_left earlier place name a spec b one two = rw (one, two) refl
 
 -- of a header whose first word and cookie were read
-pub header_left : (place : Place) (last : ℕ) (a : Place) (cookie : List ℕ) (b : Place) → magic_at place ≡ Ok (last, a) → bytes_at 256 a ≡ Ok (cookie, b) → header_at place ≡ rest_of_header_at cookie b
+pub header_left : (place : Place) (form : Form) (a : Place) (cookie : List ℕ) (b : Place) → magic_at place ≡ Ok (form, a) → bytes_at 256 a ≡ Ok (cookie, b) → header_at place ≡ rest_of_header_at form cookie b
 unfolding header_at rest_of_header_at and_then
-header_left place last a cookie b one two = rw (one, two) refl
+header_left place form a cookie b one two = rw (one, two) refl

@@ -4,6 +4,7 @@ pub mod More
 pub mod Steps
 pub mod Steady
 pub mod SteadySession
+pub mod StepLaws
 pub mod LastByte
 pub mod FieldLaws
 pub mod HeaderLaws

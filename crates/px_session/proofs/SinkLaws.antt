@@ -8,6 +8,7 @@ use Rattle.px_sample.specs.Format.{code_of}
 use Rattle.px_chmap.specs.ChannelMap.{IsChannelMap}
 use Rattle.px_header.specs.declared.header.SinkSpec.{SinkSpec}
 use Rattle.px_header.specs.declared.header.Header.{Header}
+use Rattle.px_session.specs.declared.form.Form.{Form}
 use Rattle.px_session.specs.Place.{Reading, bytes_at}
 use Rattle.px_session.specs.Field.{byte_at, word_at, ruled}
 use Rattle.px_header.specs.HeaderRules.{is_from_to, is_depth, IsFromTo, IsSink, AreSinks, IsHeader}
@@ -212,47 +213,49 @@ sinks_law n = law_as (more_at sink_at [] n)
     (λ all bytes s. subst (λ (b : List ℕ). Items Sunk [] n all b) (sym s.bytes_is) (subst (λ (k : ℕ). Items Sunk [] k all (flat_map sink all)) s.size (sinks_from [] all s.lawful)))
     (more_law sink_at sink_law [] n)
 
-abbrev pub Headed : Header → List ℕ → Type 0
-Headed h bytes = IsHeader h × (bytes ≡ header h)
+abbrev pub Headed : Form × Header → List ℕ → Type 0
+Headed x bytes = IsHeader x.1 × (bytes ≡ header x.0 x.1)
 
-abbrev pub HeaderParts : Header → List ℕ → Type 0
-HeaderParts = InTurn Magic (λ last. InTurn (Raw 256) (λ cookie. InTurn (Under (is_from_to 1 16) Byte) (λ count. InTurn (SunkAll count) (λ sinks. Nothing (record { cookie = cookie; sinks = sinks })))))
+abbrev pub HeaderParts : Form × Header → List ℕ → Type 0
+HeaderParts = InTurn Magic (λ form. InTurn (Raw 256) (λ cookie. InTurn (Under (is_from_to 1 16) Byte) (λ count. InTurn (SunkAll count) (λ sinks. Nothing (form, record { cookie = cookie; sinks = sinks })))))
 
-header_regrouped : (h : Header) → magic ++ (h.cookie ++ ((length h.sinks ∷ []) ++ (flat_map sink h.sinks ++ []))) ≡ header h
+header_regrouped : (form : Form) (h : Header) → magic form ++ (h.cookie ++ ((length h.sinks ∷ []) ++ (flat_map sink h.sinks ++ []))) ≡ header form h
 unfolding header
-header_regrouped h = ap (λ (b : List ℕ). magic ++ (h.cookie ++ (length h.sinks ∷ b))) (append-nil (flat_map sink h.sinks))
+header_regrouped form h = ap (λ (b : List ℕ). magic form ++ (h.cookie ++ (length h.sinks ∷ b))) (append-nil (flat_map sink h.sinks))
 
-header_to : (h : Header) (bytes : List ℕ) → HeaderParts h bytes → Headed h bytes
-header_to h bytes p =
+header_to : (x : Form × Header) (bytes : List ℕ) → HeaderParts x bytes → Headed x bytes
+header_to x bytes p =
+    let form = p.front in
     let cookie = p.next in
     let count = p.next.next in
     let sinks = p.next.next.next in
     let made : Header = record { cookie = cookie.front; sinks = sinks.front } in
-    let is : h ≡ made = sinks.next.0 in
+    let is : x ≡ (form, made) = sinks.next.0 in
     let size : length sinks.front ≡ count.front = sinks.first.size in
     let lawful : IsHeader made = record {
       cookie = cookie.first.0;
       count = subst (IsFromTo 1 16) (sym size) (within 1 16 count.front count.first.1);
       sinks = sinks.first.lawful;
     } in
-    let spelled : bytes ≡ header made =
-    p.joined ∙ ap (λ (b : List ℕ). b ++ p.back_bytes) p.first.1
-    ∙ ap (λ (b : List ℕ). magic ++ b) (cookie.joined ∙ ap (λ (b : List ℕ). b ++ cookie.back_bytes) cookie.first.1
+    let spelled : bytes ≡ header form made =
+    p.joined ∙ ap (λ (b : List ℕ). b ++ p.back_bytes) p.first
+    ∙ ap (λ (b : List ℕ). magic form ++ b) (cookie.joined ∙ ap (λ (b : List ℕ). b ++ cookie.back_bytes) cookie.first.1
     ∙ ap (λ (b : List ℕ). cookie.front ++ b) (count.joined ∙ ap (λ (b : List ℕ). b ++ count.back_bytes) (count.first.0.1 ∙ ap (λ (n : ℕ). n ∷ []) (sym size))
     ∙ ap (λ (b : List ℕ). (length sinks.front ∷ []) ++ b) (sinks.joined ∙ ap (λ (b : List ℕ). b ++ sinks.back_bytes) sinks.first.bytes_is ∙ ap (λ (b : List ℕ). flat_map sink sinks.front ++ b) sinks.next.1)))
-    ∙ header_regrouped made in
-    subst (λ (z : Header). Headed z bytes) (sym is) (lawful, spelled)
+    ∙ header_regrouped form made in
+    subst (λ (z : Form × Header). Headed z bytes) (sym is) (lawful, spelled)
 
-header_from : (h : Header) (bytes : List ℕ) → Headed h bytes → HeaderParts h bytes
-header_from h bytes p =
+header_from : (x : Form × Header) (bytes : List ℕ) → Headed x bytes → HeaderParts x bytes
+header_from x bytes p =
+    let h = x.1 in
     let sinks = flat_map sink h.sinks ++ [] in
     let counted = (length h.sinks ∷ []) ++ sinks in
     record {
-      front = 0x31;
-      front_bytes = magic;
+      front = x.0;
+      front_bytes = magic x.0;
       back_bytes = h.cookie ++ counted;
-      joined = p.1 ∙ sym (header_regrouped h);
-      first = (refl, refl);
+      joined = p.1 ∙ sym (header_regrouped x.0 h);
+      first = refl;
       next = record {
         front = h.cookie;
         front_bytes = h.cookie;
@@ -273,4 +276,4 @@ header_from h bytes p =
 pub header_law : IsLaw header_at Headed
 unfolding header_at
 header_law = law_as header_at header_to header_from
-    (then_law magic_at _ magic_law (λ last. then_law (bytes_at 256) _ (bytes_law 256) (λ cookie. then_law (ruled (is_from_to 1 16) byte_at) _ (ruled_law (is_from_to 1 16) byte_at byte_law) (λ count. then_law (more_at sink_at [] count) _ (sinks_law count) (λ sinks. done_law _)))))
+    (then_law magic_at _ magic_law (λ form. then_law (bytes_at 256) _ (bytes_law 256) (λ cookie. then_law (ruled (is_from_to 1 16) byte_at) _ (ruled_law (is_from_to 1 16) byte_at byte_law) (λ count. then_law (more_at sink_at [] count) _ (sinks_law count) (λ sinks. done_law _)))))

@@ -138,6 +138,33 @@ pub then_steady : {A B : Type 0} (closed : B → Type 0) (first : Reading A) (ne
 unfolding and_then
 then_steady closed first next hf hn = go_on_steady closed first (λ place x. next x) hf (λ place x. hn x) (λ place behind x after. refl)
 
+-- what is read, in other words
+pub as_steady : {A B : Type 0} (closed : B → Type 0) (mark : A → B) (read : Reading A) → IsSteady (λ x. closed (mark x)) read → IsSteady closed (and_then read (λ x. done (mark x)))
+unfolding and_then
+as_steady {A} {B} closed mark read h = record {
+  ok = λ place y behind e c.
+      (let s = go_on_ok (read place) (λ x. done (mark x)) y e in
+      let same = ok_is (mark s.0.0, s.0.1) y s.2 in
+      let there = h.ok place s.0 behind s.1 (subst closed (sym (ap (λ (z : B × Place). z.0) same)) c) in
+      rw there (ap (λ (z : B × Place). answer (z.0, more z.1 behind)) same));
+  final = λ place f behind e late. rw (h.final place f behind (err_first place f e) late) refl;
+  stays_behind = λ place y e.
+      (let s = go_on_ok (read place) (λ x. done (mark x)) y e in
+      subst (λ (z : Place). IsBehind place z) (ap (λ (z : B × Place). z.1) (ok_is (mark s.0.0, s.0.1) y s.2)) (h.stays_behind place s.0 s.1));
+  short = λ place f e early. h.short place f (err_first place f e) early;
+  endless = λ place f e goes. h.endless place f (err_first place f e) goes;
+}
+  where
+    no_ok : (x : B × Place) (f : Refusal) → answer x ≡ refused f → ⊥
+    no_ok x f e = cc
+
+    err_first : (place : Place) (f : Refusal) → go_on (read place) (λ x. done (mark x)) ≡ Err f → read place ≡ Err f
+    err_first place f e =
+        elim (go_on_err (read place) (λ x. done (mark x)) f e) [
+          | inl first ↦ first
+          | inr s ↦ absurd (no_ok (mark s.0.0, s.0.1) f s.2)
+        ]
+
 -- ---- bytes
 
 abbrev refusal_of : ℕ → Cause → Refusal

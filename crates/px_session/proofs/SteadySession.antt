@@ -1,7 +1,7 @@
 -- The fields, the header and the events stay so whatever follows the bytes, but the end byte.
 use Rattle.std.proofs.Common.{◌≡◌, ℕ, zero, suc, Bool, true, false, cond, List, [], ◌∷◌, ◌++◌, Option, Some, None, Err, Ok, refl, sym, ap, subst, ◌∙◌, nat_lt, nat_le, slice_index}
 use Rattle.std.specs.Prelude.{◌&&◌, ◌==◌}
-use Rattle.std.specs.Int.{w32, from_be_bytes}
+use Rattle.std.specs.Int.{Width, w32, byte_len, from_be_bytes}
 use Rattle.px_types.specs.declared.ids.ConnId.{ConnId}
 use Rattle.px_sample.specs.declared.format.Format.{Format}
 use Rattle.px_header.specs.declared.header.SinkSpec.{SinkSpec}
@@ -11,21 +11,28 @@ use Rattle.px_session.specs.declared.event.Step.{Step}
 use Rattle.px_session.specs.declared.event.Step.TheVariants as step
 use Rattle.px_session.specs.declared.fault.Cause.TheVariants as cause
 use Rattle.px_session.specs.Place.{Place, Reading, Refusal, bytes_at, done}
-use Rattle.px_session.specs.Field.{byte_at, word_at, broken_at, checked, ruled}
+use Rattle.px_session.specs.declared.form.Form.{Form}
+use Rattle.px_session.specs.Form.{width, most_bytes, has_stop}
+use Rattle.px_session.specs.Field.{byte_at, number_at, word_at, count_at, broken_at, checked, ruled}
 use Rattle.px_header.specs.HeaderRules.{is_from_to, is_name, is_new, format_of, is_depth}
-use Rattle.px_session.specs.HeaderReading.{no_magic, compared, letter_at, letters_at, magic_at, name_at, known, format_at, spec_at, more_at, position_at, room_at, sink_at, header_at}
-use Rattle.px_session.specs.EventReading.{ended_by, end_at, conn_at, sized_at, data_at, turn_at, collect_at, fields_at, event_at}
-use Rattle.px_session.specs.Session.{first_at, step_at}
-use Rattle.px_session.specs.Writing.{most_bytes}
-use Rattle.px_session.proofs.Steady.{more, IsBehind, behind_self, any, refused, ok_is, err_is, IsEarlyEnd, IsEndless, IsSteady, done_steady, refuse_steady, choice_steady, go_on_steady, then_steady, bytes_steady}
+use Rattle.px_session.specs.HeaderReading.{no_magic, compared, letter_at, form_of, formed, last_at, letters_at, magic_at, name_at, known, format_at, spec_at, more_at, position_at, room_at, sink_at, header_at}
+use Rattle.px_session.specs.EventReading.{ended_by, end_at, conn_at, sized_at, data_at, turn_at, collect_at, stop_at, fields_at, event_at}
+use Rattle.px_session.specs.Session.{first_at, later_at, step_at}
+use Rattle.px_session.proofs.Steady.{more, IsBehind, behind_self, any, refused, ok_is, err_is, IsEarlyEnd, IsEndless, IsSteady, done_steady, refuse_steady, choice_steady, go_on_steady, then_steady, as_steady, bytes_steady}
 
 pub byte_steady : IsSteady any byte_at
 unfolding byte_at
 byte_steady = then_steady any (bytes_at 1) (λ bytes. done (slice_index bytes 0)) (bytes_steady 1) (λ bytes. done_steady any (slice_index bytes 0))
 
+number_steady : (w : Width) → IsSteady any (number_at w)
+unfolding number_at
+number_steady w = then_steady any (bytes_at (byte_len w)) (λ bytes. done (from_be_bytes w bytes)) (bytes_steady (byte_len w)) (λ bytes. done_steady any (from_be_bytes w bytes))
+
 word_steady : IsSteady any word_at
-unfolding word_at
-word_steady = then_steady any (bytes_at 4) (λ bytes. done (from_be_bytes w32 bytes)) (bytes_steady 4) (λ bytes. done_steady any (from_be_bytes w32 bytes))
+word_steady = number_steady w32
+
+count_steady : (form : Form) → IsSteady any (count_at form)
+count_steady form = number_steady (width form)
 
 ruled_steady : {A : Type 0} (rule : A → Bool) (read : Reading A) → IsSteady any read → IsSteady any (ruled rule read)
 unfolding ruled
@@ -50,10 +57,18 @@ letter_steady start letter =
     (λ place x. choice_steady any (x == letter) (done x) (λ after. refused (no_magic start)) (done_steady any x) (refuse_steady any (no_magic start) (λ e. cc) (λ e. cc)))
     (λ place behind x after. refl)
 
+formed_steady : (start : ℕ) (found : Option Form) → IsSteady any (formed start found)
+formed_steady start None = refuse_steady any (no_magic start) (λ e. cc) (λ e. cc)
+formed_steady start (Some form) = done_steady any form
+
+last_steady : (start : ℕ) → IsSteady any (last_at start)
+unfolding last_at
+last_steady start = go_on_steady any byte_at (λ place byte. formed start (form_of byte)) byte_steady (λ place byte. formed_steady start (form_of byte)) (λ place behind byte after. refl)
+
 letters_steady : (start : ℕ) → IsSteady any (letters_at start)
 unfolding letters_at
 letters_steady start =
-    then_steady any _ _ (letter_steady start 0x50) (λ p. then_steady any _ _ (letter_steady start 0x52) (λ r. then_steady any _ _ (letter_steady start 0x53) (λ s. letter_steady start 0x31)))
+    then_steady any _ _ (letter_steady start 0x50) (λ p. then_steady any _ _ (letter_steady start 0x52) (λ r. then_steady any _ _ (letter_steady start 0x53) (λ s. last_steady start)))
 
 magic_steady : IsSteady any magic_at
 unfolding magic_at
@@ -105,7 +120,7 @@ sink_steady earlier =
 pub header_steady : IsSteady any header_at
 unfolding header_at
 header_steady =
-    then_steady any _ _ magic_steady (λ last.
+    then_steady any _ _ magic_steady (λ form.
     then_steady any _ _ (bytes_steady 256) (λ cookie.
     then_steady any _ _ (ruled_steady (is_from_to 1 16) byte_at byte_steady) (λ count.
     then_steady any _ _ (more_steady sink_at sink_steady [] count) (λ sinks. done_steady any _))))
@@ -165,44 +180,57 @@ conn_steady : (made : ConnId → Event) → IsSteady Closed (conn_at made)
 unfolding conn_at
 conn_steady made = then_steady Closed _ _ word_steady (λ conn. done_steady Closed _)
 
-sized_steady : (kind_at size : ℕ) → IsSteady any (sized_at kind_at size)
+sized_steady : (form : Form) (kind_at size : ℕ) → IsSteady any (sized_at form kind_at size)
 unfolding sized_at
-sized_steady kind_at size = choice_steady any (nat_lt most_bytes size) (λ place. refused (record { at = kind_at; cause = cause.TooLong size })) (bytes_at size) (refuse_steady any _ (λ e. cc) (λ e. cc)) (bytes_steady size)
+sized_steady form kind_at size = choice_steady any (nat_lt (most_bytes form) size) (λ place. refused (record { at = kind_at; cause = cause.TooLong size })) (bytes_at size) (refuse_steady any _ (λ e. cc) (λ e. cc)) (bytes_steady size)
 
-data_steady : (kind_at : ℕ) → IsSteady Closed (data_at kind_at)
+data_steady : (form : Form) (kind_at : ℕ) → IsSteady Closed (data_at form kind_at)
 unfolding data_at
-data_steady kind_at =
-    then_steady Closed _ _ word_steady (λ conn. then_steady Closed _ _ word_steady (λ size. then_steady Closed _ _ (sized_steady kind_at size) (λ bytes. done_steady Closed _)))
+data_steady form kind_at =
+    then_steady Closed _ _ word_steady (λ conn. then_steady Closed _ _ (count_steady form) (λ size. then_steady Closed _ _ (sized_steady form kind_at size) (λ bytes. done_steady Closed _)))
 
-turn_steady : IsSteady Closed turn_at
+turn_steady : (form : Form) → IsSteady Closed (turn_at form)
 unfolding turn_at
-turn_steady = then_steady Closed _ _ byte_steady (λ sink. then_steady Closed _ _ word_steady (λ frames. then_steady Closed _ _ word_steady (λ messages. done_steady Closed _)))
+turn_steady form = then_steady Closed _ _ byte_steady (λ sink. then_steady Closed _ _ (count_steady form) (λ frames. then_steady Closed _ _ (count_steady form) (λ messages. done_steady Closed _)))
 
-collect_steady : IsSteady Closed collect_at
+collect_steady : (form : Form) → IsSteady Closed (collect_at form)
 unfolding collect_at
-collect_steady = then_steady Closed _ _ byte_steady (λ sink. then_steady Closed _ _ word_steady (λ notices. done_steady Closed _))
+collect_steady form = then_steady Closed _ _ byte_steady (λ sink. then_steady Closed _ _ (count_steady form) (λ notices. done_steady Closed _))
 
-pub fields_steady : (kind_at kind : ℕ) → IsSteady Closed (fields_at kind_at kind)
+stop_steady : IsSteady Closed stop_at
+unfolding stop_at
+stop_steady = then_steady Closed _ _ byte_steady (λ sink. done_steady Closed _)
+
+pub fields_steady : (form : Form) (kind_at kind : ℕ) → IsSteady Closed (fields_at form kind_at kind)
 unfolding fields_at
-fields_steady kind_at kind =
+fields_steady form kind_at kind =
     choose_steady Closed (kind == 0) _ _ end_steady
     (choose_steady Closed (kind == 1) _ _ (conn_steady event.Connect)
-    (choose_steady Closed (kind == 2) _ _ (data_steady kind_at)
+    (choose_steady Closed (kind == 2) _ _ (data_steady form kind_at)
     (choose_steady Closed (kind == 3) _ _ (conn_steady event.Close)
     (choose_steady Closed (kind == 4) _ _ (conn_steady event.Cut)
-    (choose_steady Closed (kind == 5) _ _ turn_steady
-    (choose_steady Closed (kind == 6) _ _ collect_steady
-    (refuse_steady Closed _ (λ e. cc) (λ e. cc))))))))
+    (choose_steady Closed (kind == 5) _ _ (turn_steady form)
+    (choose_steady Closed (kind == 6) _ _ (collect_steady form)
+    (choose_steady Closed (has_stop form && kind == 7) _ _ stop_steady
+    (refuse_steady Closed _ (λ e. cc) (λ e. cc)))))))))
 
-pub event_steady : IsSteady Closed event_at
+pub event_steady : (form : Form) → IsSteady Closed (event_at form)
 unfolding event_at
-event_steady = go_on_steady Closed byte_at (λ place. fields_at place.at) byte_steady (λ place kind. fields_steady place.at kind) (λ place behind kind after. refl)
+event_steady form = go_on_steady Closed byte_at (λ place. fields_at form place.at) byte_steady (λ place kind. fields_steady form place.at kind) (λ place behind kind after. refl)
 
-first_steady : IsSteady Closed first_at
+-- the same of a step and its form
+abbrev pub ClosedStep : Form × Step → Type 0
+ClosedStep x = Closed x.1
+
+first_steady : IsSteady ClosedStep first_at
 unfolding first_at
-first_steady = then_steady Closed _ _ header_steady (λ header. done_steady Closed _)
+first_steady = then_steady ClosedStep _ _ header_steady (λ first. done_steady ClosedStep _)
+
+later_steady : (form : Form) → IsSteady ClosedStep (later_at form)
+unfolding later_at
+later_steady form = as_steady ClosedStep (λ step. (form, step)) (event_at form) (event_steady form)
 
 -- what stands next stays so whatever follows, but the end and an early end
-pub step_steady : (begun : Bool) → IsSteady Closed (step_at begun)
-step_steady false = first_steady
-step_steady true = event_steady
+pub step_steady : (begun : Option Form) → IsSteady ClosedStep (step_at begun)
+step_steady None = first_steady
+step_steady (Some form) = later_steady form

@@ -1,6 +1,6 @@
 -- What a reading that succeeded, or was refused, says of its steps.
 use Rattle.std.proofs.Common.{◌≡◌, Bool, true, false, cond, Result, Ok, Err, refl, ◌⊎◌, inl, inr}
-use Rattle.px_session.specs.Place.{Place, Reading, Refusal, go_on, and_then}
+use Rattle.px_session.specs.Place.{Place, Reading, Refusal, done, go_on, and_then}
 
 -- the steps of two readings in a row that succeeded
 pub go_on_ok : {A B : Type 0} (first : Result (A × Place) Refusal) (next : A → Reading B) (y : B × Place) → go_on first next ≡ Ok y → (x : A × Place) × (first ≡ Ok x) × (next x.0 x.1 ≡ Ok y)
@@ -19,6 +19,17 @@ then_ok first next place y e = go_on_ok (first place) next y e
 pub then_err : {A B : Type 0} (first : Reading A) (next : A → Reading B) (place : Place) (f : Refusal) → and_then first next place ≡ Err f → (first place ≡ Err f) ⊎ ((x : A × Place) × (first place ≡ Ok x) × (next x.0 x.1 ≡ Err f))
 unfolding and_then
 then_err first next place f e = go_on_err (first place) next f e
+
+-- what was refused in other words was refused
+pub as_refused : {A B : Type 0} (read : Reading A) (mark : A → B) (place : Place) (f : Refusal) → and_then read (λ x. done (mark x)) place ≡ Err f → read place ≡ Err f
+as_refused {A} {B} read mark place f e =
+    elim (then_err read (λ x. done (mark x)) place f e) [
+      | inl first ↦ first
+      | inr s ↦ absurd (no_ok (mark s.0.0, s.0.1) f s.2)
+    ]
+  where
+    no_ok : (x : B × Place) (f : Refusal) → (let r : Result (B × Place) Refusal = Ok x in r) ≡ Err f → ⊥
+    no_ok x f e = cc
 
 -- a test that passed
 pub test_ok : {X Y : Type 0} (b : Bool) (d : Y) (x y : X) → cond {A = Result X Y} b (Ok x) (Err d) ≡ Ok y → (b ≡ true) × (x ≡ y)

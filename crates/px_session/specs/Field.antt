@@ -1,7 +1,9 @@
--- The fields of a session: a byte, a number of four bytes, and a field under a rule.
+-- The fields of a session: a byte, a number of a width, and a field under a rule.
 use Rattle.std.specs.Prelude.{ℕ, Bool, Ok, Err, slice_index, if◌then◌else◌}
-use Rattle.std.specs.Int.{w32, from_be_bytes}
+use Rattle.std.specs.Int.{Width, w32, byte_len, from_be_bytes}
 use Rattle.px_session.specs.declared.fault.Cause.TheVariants as cause
+use Rattle.px_session.specs.declared.form.Form.{Form}
+use Rattle.px_session.specs.Form.{width}
 use Rattle.px_session.specs.Place.{Place, Reading, Refusal, bytes_at, done, go_on, ◌>>=◌}
 
 unfoldable pub byte_at : Reading ℕ
@@ -10,10 +12,18 @@ byte_at = do
   done (slice_index bytes 0)
 
 -- the highest byte first
-unfoldable pub word_at : Reading ℕ
-word_at = do
-  bytes ← bytes_at 4
-  done (from_be_bytes w32 bytes)
+unfoldable pub number_at : Width → Reading ℕ
+number_at w = do
+  bytes ← bytes_at (byte_len w)
+  done (from_be_bytes w bytes)
+
+-- four bytes
+abbrev pub word_at : Reading ℕ
+word_at = number_at w32
+
+-- a count or a length
+abbrev pub count_at : Form → Reading ℕ
+count_at form = number_at (width form)
 
 -- a field of the header that breaks its rule is refused at its first byte
 abbrev pub broken_at : Place → Refusal

@@ -5,6 +5,9 @@ use Rattle.px_sample.specs.declared.spec.Spec.{Spec}
 use Rattle.px_header.specs.declared.header.SinkSpec.{SinkSpec}
 use Rattle.px_header.specs.declared.header.Header.{Header}
 use Rattle.px_session.specs.declared.fault.Cause.TheVariants as cause
+use Rattle.px_session.specs.declared.form.Form.{Form}
+use Rattle.px_session.specs.declared.form.Form.TheVariants.{One, Two}
+use Rattle.px_session.specs.Form.{letter}
 use Rattle.px_session.specs.Place.{Place, Reading, Refusal, bytes_at, done, go_on, ◌>>=◌}
 use Rattle.px_session.specs.Field.{byte_at, word_at, ruled, broken_at}
 use Rattle.px_header.specs.HeaderRules.{is_from_to, is_name, is_new, format_of, is_depth}
@@ -19,15 +22,30 @@ compared start letter byte after = if byte == letter then Ok (byte, after) else 
 unfoldable pub letter_at : ℕ → ℕ → Reading ℕ
 letter_at start letter place = go_on (byte_at place) (compared start letter)
 
--- The word PRS1. A wrong letter is refused at the word's first byte.
-unfoldable pub letters_at : ℕ → Reading ℕ
+-- the form with this last letter
+abbrev pub form_of : ℕ → Option Form
+form_of byte =
+    if byte == letter One then Some One
+    else if byte == letter Two then Some Two
+    else None
+
+abbrev pub formed : ℕ → Option Form → Reading Form
+formed start None after = Err (no_magic start)
+formed start (Some form) after = Ok (form, after)
+
+-- the last letter of the word that begins at this offset
+unfoldable pub last_at : ℕ → Reading Form
+last_at start place = go_on (byte_at place) (λ byte. formed start (form_of byte))
+
+-- The word PRS1 or PRS2. A wrong letter is refused at the word's first byte.
+unfoldable pub letters_at : ℕ → Reading Form
 letters_at start = do
   p ← letter_at start 0x50
   r ← letter_at start 0x52
   s ← letter_at start 0x53
-  letter_at start 0x31
+  last_at start
 
-unfoldable pub magic_at : Reading ℕ
+unfoldable pub magic_at : Reading Form
 magic_at place = letters_at place.at place
 
 -- the length, and that many bytes
@@ -80,10 +98,11 @@ sink_at earlier = do
   room ← room_at
   done (record { name = name; spec = spec; map = map; guard = room.guard; depth = room.depth })
 
-unfoldable pub header_at : Reading Header
+-- the form, and the header
+unfoldable pub header_at : Reading (Form × Header)
 header_at = do
-  last ← magic_at
+  form ← magic_at
   cookie ← bytes_at 256
   count ← ruled (is_from_to 1 16) byte_at
   sinks ← more_at sink_at [] count
-  done (record { cookie = cookie; sinks = sinks })
+  done (form, record { cookie = cookie; sinks = sinks })

@@ -1,3 +1,4 @@
+pub mod Form
 pub mod Place
 pub mod Field
 pub mod HeaderReading

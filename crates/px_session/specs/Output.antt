@@ -3,7 +3,7 @@ use Rattle.std.specs.Prelude.{ℕ, List, [], ◌∷◌, ◌++◌, length}
 use Rattle.std.specs.Int.{w64, to_be_bytes}
 use Rattle.px_session.specs.Spelling.{word, end_byte}
 use Rattle.px_session.specs.declared.output.OutRecord.{OutRecord}
-use Rattle.px_session.specs.declared.output.OutRecord.TheVariants.{Sent, Closed, Played}
+use Rattle.px_session.specs.declared.output.OutRecord.TheVariants.{Sent, Closed, Played, Stopped}
 
 -- a frame was sent to the client of a connection
 unfoldable pub sent_record : ℕ → List ℕ → List ℕ
@@ -17,10 +17,15 @@ closed_record conn reason fault at = 2 ∷ word conn ++ (reason ∷ fault ∷ to
 unfoldable pub played_record : ℕ → ℕ → List ℕ → List ℕ
 played_record sink frames bytes = 3 ∷ sink ∷ word frames ++ bytes
 
+-- a sink has stopped, with so many frames filled
+unfoldable pub stopped_record : ℕ → ℕ → List ℕ
+stopped_record sink filled = 4 ∷ sink ∷ to_be_bytes w64 filled
+
 abbrev pub record_of : OutRecord → List ℕ
 record_of (Sent conn bytes) = sent_record conn.0 bytes.now
 record_of (Closed conn reason fault at) = closed_record conn.0 reason fault at
 record_of (Played sink frames bytes) = played_record sink frames bytes.now
+record_of (Stopped sink filled) = stopped_record sink filled
 
 -- the records, and then the end byte
 abbrev pub ended_output : List ℕ → List ℕ

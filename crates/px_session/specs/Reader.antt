@@ -1,19 +1,20 @@
 -- A reader as contracts see it, and how its next step follows from the bytes.
-use Rattle.std.specs.Prelude.{◌≡◌, ℕ, Bool, true, List, ◌++◌, Option, Some, Result, Ok, Err}
+use Rattle.std.specs.Prelude.{◌≡◌, ℕ, List, ◌++◌, Option, Some, Result, Ok, Err}
 use Rattle.px_ends.specs.Visible.{before_taking, IsAtEnd, WhereVisible}
 use Rattle.px_session.specs.declared.event.Step.{Step}
 use Rattle.px_session.specs.declared.event.Step.TheVariants as step
 use Rattle.px_session.specs.declared.fault.Cause.TheVariants as cause
 use Rattle.px_session.specs.declared.fault.ReadError.{ReadError}
 use Rattle.px_session.specs.declared.fault.ReadError.TheVariants as error
+use Rattle.px_session.specs.declared.form.Form.{Form}
 use Rattle.px_session.specs.Place.{Place, Refusal}
 use Rattle.px_session.specs.Session.{step_at}
 
--- how many bytes of the session were read, those that were taken from the source and not read yet, and whether the header was read
+-- how many bytes of the session were read, those that were taken from the source and not read yet, and the form once the header was read
 pub record Reader : Type 0 where
   pub at : ℕ
   pub ahead : List ℕ
-  pub begun : Bool
+  pub begun : Option Form
 
 -- the place of the reader, if these bytes are ahead
 abbrev pub place_with : Reader → List ℕ → Place
@@ -24,8 +25,8 @@ abbrev pub all_ahead : Reader → Option (List ℕ) → Option (List ℕ)
 all_ahead reader left = before_taking reader.ahead left
 
 -- this was read, and the reader is now after it, with `bytes` ahead
-abbrev pub Stepped : Result Step ReadError → Reader → List ℕ → Result (Step × Place) Refusal → Type 0
-Stepped (Ok step) new bytes read = (read ≡ Ok (step, place_with new bytes)) × (new.begun ≡ true)
+abbrev pub Stepped : Result Step ReadError → Reader → List ℕ → Result ((Form × Step) × Place) Refusal → Type 0
+Stepped (Ok step) new bytes read = (form : Form) × (read ≡ Ok ((form, step), place_with new bytes)) × (new.begun ≡ Some form)
 Stepped (Err (error.Refused at cause)) new bytes read = read ≡ Err (record { at = at; cause = cause })
 Stepped (Err error.Failed) new bytes read = Unit {0}
 Stepped (Err error.NoMemory) new bytes read = Unit {0}

@@ -1,12 +1,14 @@
--- The values that the writers can write.
-use Rattle.std.specs.Prelude.{ℕ, ◌<◌, ◌≤◌, ◌^◌, length}
+-- The values that the writers can write in a form.
+use Rattle.std.specs.Prelude.{◌≡◌, ◌<◌, ◌≤◌, ◌^◌, true, length, Option, None, Some}
 use Rattle.std.specs.List.{AllByRecursion}
 use Rattle.px_header.specs.declared.header.SinkSpec.{SinkSpec}
 use Rattle.px_header.specs.declared.header.Header.{Header}
 use Rattle.px_session.specs.declared.event.Event.{Event}
-use Rattle.px_session.specs.declared.event.Event.TheVariants.{Bytes}
+use Rattle.px_session.specs.declared.event.Event.TheVariants.{Bytes, Turn, Collect, Stop}
 use Rattle.px_session.specs.declared.event.Step.{Step}
 use Rattle.px_session.specs.declared.event.Step.TheVariants as step
+use Rattle.px_session.specs.declared.form.Form.{Form}
+use Rattle.px_session.specs.Form.{IsCount, most_bytes, has_stop}
 use Rattle.px_session.specs.declared.output.OutRecord.{OutRecord}
 use Rattle.px_session.specs.declared.output.OutRecord.TheVariants.{Sent}
 
@@ -19,13 +21,13 @@ pub record FitsHeader (h : Header) : Type 0 where
   pub count : length h.sinks < 2 ^ 8
   pub names : AllByRecursion FitsSink h.sinks
 
--- the longest Bytes event of a session
-abbrev pub most_bytes : ℕ
-most_bytes = 65536
-
-abbrev pub FitsEvent : Event → Type 0
-FitsEvent (Bytes conn bytes) = length bytes ≤ most_bytes
-FitsEvent _ = Unit {0}
+-- each count and each length fits its field, no Bytes event is too long, and the form has Stop where the event is one
+abbrev pub FitsEvent : Form → Event → Type 0
+FitsEvent form (Bytes conn bytes) = length bytes ≤ most_bytes form
+FitsEvent form (Turn sink frames messages) = IsCount form frames × IsCount form messages
+FitsEvent form (Collect sink notices) = IsCount form notices
+FitsEvent form (Stop sink) = has_stop form ≡ true
+FitsEvent form _ = Unit {0}
 
 -- the length of what was sent fits four bytes
 abbrev pub FitsRecord : OutRecord → Type 0
@@ -33,7 +35,11 @@ FitsRecord (Sent conn bytes) = length bytes.now < 2 ^ 32
 FitsRecord _ = Unit {0}
 
 -- a step that a writer can write
-abbrev pub FitsStep : Step → Type 0
-FitsStep (step.Header h) = FitsHeader h
-FitsStep (step.Event e) = FitsEvent e
-FitsStep step.End = Unit {0}
+abbrev pub FitsStep : Form → Step → Type 0
+FitsStep form (step.Header h) = FitsHeader h
+FitsStep form (step.Event e) = FitsEvent form e
+FitsStep form step.End = Unit {0}
+
+abbrev pub FitsStepBy : Option Form → Step → Type 0
+FitsStepBy None s = ⊥
+FitsStepBy (Some form) s = FitsStep form s

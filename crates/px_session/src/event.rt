@@ -1,14 +1,14 @@
 //! The events of a session, and the steps that a reader gives.
 
 use px_header::Header;
-use px_types::{ConnId, Text};
+use px_types::{ConnId, SinkId, Text};
 
 /// An event of a session. A connection's number is in use from its Connect to its Close. Own: PulseAudio records no sessions.
 #[derive(Debug, Drop)]
 pub enum Event {
     /// A client connects.
     Connect(ConnId),
-    /// Up to 65,536 bytes arrive from a client.
+    /// Up to 65,536 bytes arrive from a client, and up to 1,048,576 in the second form.
     Bytes(ConnId, Text),
     /// A client has closed its connection.
     Close(ConnId),
@@ -19,17 +19,19 @@ pub enum Event {
         /// The sink's index in the header.
         sink: u8,
         /// How many frames its device consumes.
-        frames: u32,
+        frames: u64,
         /// How many of the waiting messages it takes.
-        take: u32,
+        take: u64,
     },
     /// The core takes notices of a sink.
     Collect {
         /// The sink's index in the header.
         sink: u8,
         /// How many of the waiting notices it takes.
-        take: u32,
+        take: u64,
     },
+    /// A sink's device will fail in the sink's next turn. Only the second form has it.
+    Stop(SinkId),
 }
 
 /// What a reader gives next.

@@ -8,7 +8,7 @@ use thiserror::Error;
 /// Why a session is refused: the first rule that its bytes break, from left to right. Own: PulseAudio records no sessions.
 #[derive(Clone, Copy, Debug, PartialEq, Eq, Error)]
 pub enum Cause {
-    /// The first four bytes, or all of a shorter input, aren't a prefix of `PRS1`. At byte 0.
+    /// The first four bytes, or all of a shorter input, aren't a prefix of `PRS1` or of `PRS2`. At byte 0.
     #[error("magic")]
     Magic,
     /// A field of the header breaks its rule. At the field's first byte.
@@ -23,10 +23,10 @@ pub enum Cause {
     /// A byte follows the end byte. At that byte.
     #[error("trailing")]
     Trailing,
-    /// No event has this kind. At its kind byte.
+    /// No event of the session's form has this kind. At its kind byte.
     #[error("kind {0}")]
     Kind(u8),
-    /// A Bytes event has this length, which is above 65,536. At its kind byte.
+    /// A Bytes event has this length, which is above 65,536, or, in the second form, above 1,048,576. At its kind byte.
     #[error("too long {0}")]
     TooLong(u64),
 }

@@ -6,11 +6,12 @@ ghost use Rattle.px_sample.specs.Format.{code_of};
 ghost use Rattle.px_session.specs.Place.{bytes_at, Gives, Reads};
 ghost use Rattle.px_session.specs.Field.{byte_at, word_at, ruled};
 ghost use Rattle.px_header.specs.HeaderRules.{is_from_to, IsFromTo, is_name, is_new, format_of, is_depth};
-ghost use Rattle.px_session.specs.HeaderReading.{letter_at, magic_at, name_at, format_at, spec_at, position_at, more_at, room_at, sink_at, header_at};
+ghost use Rattle.px_session.specs.HeaderReading.{letter_at, form_of, last_at, magic_at, name_at, format_at, spec_at, position_at, more_at, room_at, sink_at, header_at};
 ghost use Rattle.px_session.specs.HeaderRest.{rest_of_sink_at, rest_of_header_at};
 ghost use Rattle.px_session.specs.Seen.{place_of, room_of};
 
 use crate::fault::{Cause, ReadError};
+use crate::form::Form;
 use crate::place::Place;
 use px_chmap::Map;
 use px_header::{Header, SinkSpec, SinkSpecs};
@@ -34,15 +35,41 @@ fn letter(start: u64, letter: u8, place: Place<'_>) -> Result<(u8, Place<'_>), R
     Ok((byte, after))
 }
 
+// The form whose word has this last letter.
+fn form_named(byte: u8) -> Option<Form>
+    ensures { result ≡ form_of byte }
+{
+    match byte {
+        b'1' => Some(Form::One),
+        b'2' => Some(Form::Two),
+        _ => None,
+    }
+}
+
+// The last letter of the word that begins at `start`.
+#[tactic(auto, unfolding(crate::specs::HeaderReading::last_at))]
+fn last_letter(start: u64, place: Place<'_>) -> Result<(Form, Place<'_>), ReadError>
+    ensures { Gives (λ read. (read.0, place_of read.1)) result (last_at start (place_of place.entry)) }
+{
+    let (byte, after) = place.byte()?;
+    match form_named(byte) {
+        Some(form) => Ok((form, after)),
+        None => Err(ReadError::Refused {
+            at: start,
+            cause: Cause::Magic,
+        }),
+    }
+}
+
 #[tactic(auto, unfolding(crate::specs::HeaderReading::magic_at, crate::specs::HeaderReading::letters_at, crate::specs::Place::and_then))]
-fn magic(place: Place<'_>) -> Result<(u8, Place<'_>), ReadError>
+fn magic(place: Place<'_>) -> Result<(Form, Place<'_>), ReadError>
     ensures { Gives (λ read. (read.0, place_of read.1)) result (magic_at (place_of place.entry)) }
 {
     let start = place.at;
     let (_, rest) = letter(start, b'P', place)?;
     let (_, rest) = letter(start, b'R', rest)?;
     let (_, rest) = letter(start, b'S', rest)?;
-    letter(start, b'1', rest)
+    last_letter(start, rest)
 }
 
 // A byte from `low` to `high`.
@@ -284,24 +311,30 @@ fn header_of(alloc: Global, cookie: &[u8], sinks: Vec<SinkSpec>) -> Mem<Header>
     }
 }
 
-// The header with this cookie, whose other fields are read at the place.
+// The form, and the header with this cookie, whose other fields are read at the place.
 #[tactic(auto, unfolding(crate::specs::HeaderRest::rest_of_header_at, crate::specs::Place::and_then))]
-fn rest_of_header(alloc: Global, cookie: &[u8], place: &mut Place<'_>) -> Result<Header, ReadError>
-    ensures { Reads (λ h. h) result (place_of place.new) (rest_of_header_at cookie.now (place_of place.old)) }
+fn rest_of_header(
+    alloc: Global,
+    form: Form,
+    cookie: &[u8],
+    place: &mut Place<'_>,
+) -> Result<(Form, Header), ReadError>
+    ensures { Reads (λ h. h) result (place_of place.new) (rest_of_header_at form cookie.now (place_of place.old)) }
 {
     let (count, rest) = byte_within(*place, 1, MAX_SINKS as u8)?;
     *place = rest;
     let sinks = sinks(alloc, count, place)?;
-    Ok(header_of(alloc, cookie, sinks)?)
+    let header = header_of(alloc, cookie, sinks)?;
+    Ok((form, header))
 }
 
-/// Reads the header at the place, and moves the place past it.
+/// Reads the form and the header at the place, and moves the place past them.
 #[tactic(auto, unfolding(crate::specs::HeaderReading::header_at, crate::specs::Place::and_then))]
-pub(crate) fn header(alloc: Global, place: &mut Place<'_>) -> Result<Header, ReadError>
+pub(crate) fn header(alloc: Global, place: &mut Place<'_>) -> Result<(Form, Header), ReadError>
     ensures { Reads (λ h. h) result (place_of place.new) (header_at (place_of place.old)) }
 {
-    let (_, rest) = magic(*place)?;
+    let (form, rest) = magic(*place)?;
     let (cookie, rest) = rest.bytes(256)?;
     *place = rest;
-    rest_of_header(alloc, cookie, place)
+    rest_of_header(alloc, form, cookie, place)
 }

@@ -8,7 +8,7 @@ use px_types::Mem;
 use std::alloc::Global;
 use std::marker::Model;
 
-/// The most bytes that are taken from a source at once.
+/// The bytes of a buffer at first.
 const BUFFER: usize = 65_536;
 
 /// What asking a source for more answers.

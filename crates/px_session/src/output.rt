@@ -30,4 +30,11 @@ pub enum OutRecord<'a> {
         /// The frames' bytes.
         bytes: &'a [u8],
     },
+    /// A sink has stopped, since its device failed.
+    Stopped {
+        /// The sink's index in the header.
+        sink: u8,
+        /// How many frames the sink had filled.
+        filled: u64,
+    },
 }

@@ -3,6 +3,7 @@
 ghost use Rattle.std.specs.Prelude.{◌≡◌, ◌≤◌, ◌^◌, length, IfOk};
 
 use crate::fault::{Cause, ReadError};
+use crate::form::Form;
 use px_types::limits::MAX_SESSION;
 
 /// The bytes of a session that are there, from an offset on.
@@ -15,7 +16,8 @@ pub(crate) struct Place<'a> {
 
 impl<'a> Place<'a> {
     ghost use Rattle.px_session.specs.Place.{available, short_at, bytes_at, no_field, Fails, Gives};
-    ghost use Rattle.px_session.specs.Field.{byte_at, word_at, broken_at};
+    ghost use Rattle.px_session.specs.Field.{byte_at, word_at, number_at, count_at, broken_at};
+    ghost use Rattle.std.specs.Int.{w64};
     ghost use Rattle.px_session.specs.Seen.{place_of};
 
     /// How many of the bytes that are left lie within the limit.
@@ -82,7 +84,7 @@ impl<'a> Place<'a> {
     }
 
     /// A number of four bytes.
-    #[tactic(auto, unfolding(crate::specs::Field::word_at, crate::specs::Place::and_then))]
+    #[tactic(auto, unfolding(crate::specs::Field::number_at, crate::specs::Place::and_then))]
     pub(crate) fn word(self) -> Result<(u32, Place<'a>), ReadError>
         ensures { Gives (λ read. (read.0, place_of read.1)) result (word_at (place_of self.entry)) }
     {
@@ -91,5 +93,32 @@ impl<'a> Place<'a> {
             u32::from_be_bytes([bytes[0], bytes[1], bytes[2], bytes[3]]),
             after,
         ))
+    }
+
+    // A number of eight bytes.
+    #[tactic(auto, unfolding(crate::specs::Field::number_at, crate::specs::Place::and_then))]
+    fn long(self) -> Result<(u64, Place<'a>), ReadError>
+        ensures { Gives (λ read. (read.0, place_of read.1)) result (number_at w64 (place_of self.entry)) }
+    {
+        let (bytes, after) = self.bytes(8)?;
+        Ok((
+            u64::from_be_bytes([
+                bytes[0], bytes[1], bytes[2], bytes[3], bytes[4], bytes[5], bytes[6], bytes[7],
+            ]),
+            after,
+        ))
+    }
+
+    /// A count or a length of this form.
+    pub(crate) fn count(self, form: Form) -> Result<(u64, Place<'a>), ReadError>
+        ensures { Gives (λ read. (read.0, place_of read.1)) result (count_at form (place_of self.entry)) }
+    {
+        match form {
+            Form::One => {
+                let (count, after) = self.word()?;
+                Ok((u64::from(count), after))
+            }
+            Form::Two => self.long(),
+        }
     }
 }

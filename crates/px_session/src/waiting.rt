@@ -11,6 +11,7 @@ ghost use Rattle.px_session.specs.Seen.{place_of};
 use crate::event::Step;
 use crate::event_reading::event;
 use crate::fault::{Cause, ReadError};
+use crate::form::Form;
 use crate::found::Found;
 use crate::header_reading::header;
 use crate::held::{Held, More};
@@ -18,29 +19,39 @@ use crate::place::Place;
 use crate::supply::Supply;
 use px_ends::Source;
 
-// The header, or, once that was read, an event or the end.
-#[tactic(auto, unfolding(crate::specs::Session::first_at, crate::specs::Place::and_then))]
-fn step(supply: &mut Supply, begun: bool, place: &mut Place<'_>) -> Result<Step, ReadError>
+// The form, and the header, or, once that was read, an event or the end.
+#[tactic(auto, unfolding(crate::specs::Session::first_at, crate::specs::Session::later_at, crate::specs::Place::and_then))]
+fn step(
+    supply: &mut Supply,
+    begun: Option<Form>,
+    place: &mut Place<'_>,
+) -> Result<(Form, Step), ReadError>
     ensures { Reads (λ step. step) result (place_of place.new) (step_at begun (place_of place.old)) }
 {
-    if begun {
-        event(supply, place)
-    } else {
-        Ok(Step::Header(header(supply.alloc(), place)?))
+    match begun {
+        Some(form) => {
+            let step = event(supply, form, place)?;
+            Ok((form, step))
+        }
+        None => {
+            let (form, header) = header(supply.alloc(), place)?;
+            Ok((form, Step::Header(header)))
+        }
     }
 }
 
-fn look(supply: &mut Supply, begun: bool, at: u64, bytes: &[u8]) -> Result<Found, ReadError>
+fn look(supply: &mut Supply, begun: Option<Form>, at: u64, bytes: &[u8]) -> Result<Found, ReadError>
     requires { at ≤ 2 ^ 40 }
     ensures finds { Finds result bytes.now (step_at begun (place_at at bytes.now)) }
     ensures within { IfOk result (λ found. found.at ≤ 2 ^ 40) }
     ensures forward { IfOk result (λ found. at < found.at) }
-    ensures lawful { IfOk result (λ found. IsStep found.step) }
+    ensures lawful { IfOk result (λ found. IsStep found.form found.step) }
     ensures never { NeverFails result }
 {
     let mut place = Place { at, rest: bytes };
-    let step = step(supply, begun, &mut place)?;
+    let (form, step) = step(supply, begun, &mut place)?;
     Ok(Found {
+        form,
         step,
         used: bytes.len() - place.rest.len(),
         at: place.at,
@@ -68,7 +79,7 @@ fn settled(read: Result<Found, ReadError>) -> Option<Result<Found, ReadError>>
 /// What comes next, in the bytes that are held and the further bytes of the source that it needs.
 pub(crate) fn await_step<S: Source>(
     supply: &mut Supply,
-    begun: bool,
+    begun: Option<Form>,
     at: u64,
     held: &mut Held,
     input: &mut S,
@@ -78,7 +89,7 @@ pub(crate) fn await_step<S: Source>(
     ensures counts { ReadCounts result (S.faults input.old) (S.faults input.new) }
     ensures within { IfOk result (λ found. found.at ≤ 2 ^ 40) }
     ensures forward { IfOk result (λ found. at < found.at) }
-    ensures lawful { IfOk result (λ found. IsStep found.step) }
+    ensures lawful { IfOk result (λ found. IsStep found.form found.step) }
 {
     loop {
         if let Some(read) = settled(look(supply, begun, at, held.as_slice())) {

@@ -9,9 +9,9 @@ use Rattle.px_session.specs.declared.event.Event.TheVariants.{Bytes}
 use Rattle.px_session.specs.EventRules.{IsEvent}
 use Rattle.px_tape.specs.declared.tape.Mark.{Mark}
 use Rattle.px_tape.specs.declared.tape.Mark.TheVariants.{Made}
-use Rattle.px_tape.specs.Tape.{turn_in, turns_in, bytes_in, all_bytes, IsMark}
+use Rattle.px_tape.specs.Tape.{form, turn_in, turns_in, bytes_in, all_bytes, IsMark}
 
-pub one_more : (events : List Event) (e : Event) → AllByRecursion IsEvent events → IsEvent e → AllByRecursion IsEvent (events ++ e ∷ [])
+pub one_more : (events : List Event) (e : Event) → AllByRecursion (IsEvent form) events → IsEvent form e → AllByRecursion (IsEvent form) (events ++ e ∷ [])
 one_more [] e all is = (is, tt)
 one_more (x ∷ events) e all is = (all.0, one_more events e all.1 is)
 
@@ -20,17 +20,17 @@ one_counted [] e = omega arith
 one_counted (x ∷ events) e = let rest = one_counted events e in omega (arith, rest)
 
 -- lawful events with one more
-pub pushed : (events after : List Event) (e : Event) → AllByRecursion IsEvent events → IsEvent e → after ≡ events ++ e ∷ [] → AllByRecursion IsEvent after
-pushed events after e all is more = subst (AllByRecursion IsEvent) (sym more) (one_more events e all is)
+pub pushed : (events after : List Event) (e : Event) → AllByRecursion (IsEvent form) events → IsEvent form e → after ≡ events ++ e ∷ [] → AllByRecursion (IsEvent form) after
+pushed events after e all is more = subst (AllByRecursion (IsEvent form)) (sym more) (one_more events e all is)
 
 -- and how many turns they have
 pub counted : (events after : List Event) (e : Event) → after ≡ events ++ e ∷ [] → turns_in after ≡ turns_in events + turn_in e
 counted events after e more = ap turns_in more ∙ one_counted events e
 
 -- places of a tape with events of the core behind them
-pub all_marks : (marks after : List Mark) (events : List Event) → AllByRecursion IsMark marks → AllByRecursion IsEvent events → turns_in events ≡ 0 → after ≡ marks ++ map Made events → AllByRecursion IsMark after
+pub all_marks : (marks after : List Mark) (events : List Event) → AllByRecursion IsMark marks → AllByRecursion (IsEvent form) events → turns_in events ≡ 0 → after ≡ marks ++ map Made events → AllByRecursion IsMark after
 all_marks marks after events are lawful others more = subst (AllByRecursion IsMark) (sym more) (behind marks events are lawful others) where
-  behind : (marks : List Mark) (events : List Event) → AllByRecursion IsMark marks → AllByRecursion IsEvent events → turns_in events ≡ 0 → AllByRecursion IsMark (marks ++ map Made events)
+  behind : (marks : List Mark) (events : List Event) → AllByRecursion IsMark marks → AllByRecursion (IsEvent form) events → turns_in events ≡ 0 → AllByRecursion IsMark (marks ++ map Made events)
   behind [] [] are lawful others = tt
   behind [] (e ∷ events) are lawful others = ((lawful.0, omega (arith, others)), behind [] events tt lawful.1 (omega (arith, others)))
   behind (m ∷ marks) events are lawful others = (are.0, behind marks events are.1 lawful others)

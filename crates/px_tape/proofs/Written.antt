@@ -5,25 +5,18 @@ use Rattle.std.proofs.lemmas.List.{append-nil}
 use Rattle.px_ends.specs.Visible.{after_adding}
 use Rattle.px_ends.specs.Whole.{AddsFront}
 use Rattle.px_session.specs.declared.event.Event.{Event}
-use Rattle.px_session.specs.declared.event.Event.TheVariants.{Connect, Bytes, Close, Cut, Turn, Collect}
 use Rattle.px_header.specs.declared.header.Header.{Header}
 use Rattle.px_header.specs.declared.header.SinkSpec.{SinkSpec}
 use Rattle.px_session.specs.EventRules.{IsEvent}
 use Rattle.px_header.specs.HeaderRules.{AreSinks, IsHeader}
 use Rattle.px_session.specs.Writing.{FitsSink, FitsHeader, FitsEvent}
 use Rattle.px_session.proofs.Added.{front_then}
+use Rattle.px_session.proofs.Answered.{event_fits}
+use Rattle.px_tape.specs.Tape.{form}
 
-fits : (e : Event) → IsEvent e → FitsEvent e
-fits (Connect conn) is = tt
-fits (Bytes conn bytes) is = is.1
-fits (Close conn) is = tt
-fits (Cut conn) is = tt
-fits (Turn sink frames messages) is = tt
-fits (Collect sink notices) is = tt
-
-pub all_fit : (events : List Event) → AllByRecursion IsEvent events → AllByRecursion FitsEvent events
+pub all_fit : (events : List Event) → AllByRecursion (IsEvent form) events → AllByRecursion (FitsEvent form) events
 all_fit [] all = tt
-all_fit (e ∷ events) all = (fits e all.0, all_fit events all.1)
+all_fit (e ∷ events) all = (event_fits form e all.0, all_fit events all.1)
 
 names_fit : (earlier sinks : List SinkSpec) → AreSinks earlier sinks → AllByRecursion FitsSink sinks
 names_fit earlier [] all = tt

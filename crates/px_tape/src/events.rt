@@ -5,18 +5,21 @@ ghost use Rattle.px_ends.specs.Visible.{after_adding};
 ghost use Rattle.px_ends.specs.Whole.{AddsFront};
 ghost use Rattle.px_session.specs.EventRules.{IsEvent};
 ghost use Rattle.px_header.specs.HeaderRules.{IsHeader};
-ghost use Rattle.px_session.specs.Spelling.{event, session};
+ghost use Rattle.px_session.specs.Spelling.{event, spelled};
 ghost use Rattle.px_session.specs.Writing.{FitsEvent};
 ghost use Rattle.px_session.specs.declared.event.Event.TheVariants as kind;
-ghost use Rattle.px_tape.specs.Tape.{begun};
+ghost use Rattle.px_tape.specs.Tape.{form, begun};
 ghost use Rattle.px_types.specs.Faults.{Rose};
 
 use px_ends::Sink;
 use px_header::Header;
-use px_session::{Event, WriteError, write_end, write_event, write_header};
+use px_session::{Event, Form, WriteError, write_end, write_event, write_header};
 use px_types::{ConnId, Mem, SinkId};
 use std::alloc::Global;
 use std::marker::Model;
+
+/// The form of a tape's session.
+const FORM: Form = Form::One;
 
 /// Events of a session, in their order. Contracts see the list; each event is possible in a session.
 #[derive(Debug, Drop)]
@@ -29,24 +32,25 @@ impl Model for Events {
     ghost use Rattle.std.specs.List.{AllByRecursion};
     ghost use Rattle.px_session.specs.EventRules.{IsEvent};
     ghost use Rattle.px_session.specs.declared.event.Event.{Event as SessionEvent};
+    ghost use Rattle.px_tape.specs.Tape.{form};
 
     ghost Value = { List SessionEvent };
 
     ghost view = { λ e. e.events.items };
 
-    ghost invariant = { λ e. AllByRecursion IsEvent e.events.items };
+    ghost invariant = { λ e. AllByRecursion (IsEvent form) e.events.items };
 }
 
 // Writes events.
 fn write_events<K: Sink>(events: &[Event], out: &mut K) -> Result<(), WriteError>
-    requires { AllByRecursion FitsEvent events.now }
-    ensures ok { OnOk result (K.held out.new ≡ after_adding (K.held out.old) (flat_map event events.now)) }
+    requires { AllByRecursion (FitsEvent form) events.now }
+    ensures ok { OnOk result (K.held out.new ≡ after_adding (K.held out.old) (flat_map (event form) events.now)) }
     ensures ok_count { OnOk result (K.faults out.new ≡ K.faults out.old) }
-    ensures err { OnErr result (AddsFront (flat_map event events.now) (K.held out.old) (K.held out.new)) }
+    ensures err { OnErr result (AddsFront (flat_map (event form) events.now) (K.held out.old) (K.held out.new)) }
     ensures err_count { OnErr result (Rose (K.faults out.old) (K.faults out.new)) }
 {
     for event in events {
-        write_event(out, event)?;
+        write_event(FORM, out, event)?;
     }
     Ok(())
 }
@@ -54,23 +58,23 @@ fn write_events<K: Sink>(events: &[Event], out: &mut K) -> Result<(), WriteError
 // Writes a header and events.
 fn write_begun<K: Sink>(header: &Header, events: &[Event], out: &mut K) -> Result<(), WriteError>
     requires header { IsHeader header.now }
-    requires events { AllByRecursion IsEvent events.now }
+    requires events { AllByRecursion (IsEvent form) events.now }
     ensures ok { OnOk result (K.held out.new ≡ after_adding (K.held out.old) (begun header.now events.now)) }
     ensures ok_count { OnOk result (K.faults out.new ≡ K.faults out.old) }
     ensures err { OnErr result (AddsFront (begun header.now events.now) (K.held out.old) (K.held out.new)) }
     ensures err_count { OnErr result (Rose (K.faults out.old) (K.faults out.new)) }
 {
-    write_header(out, header)?;
+    write_header(FORM, out, header)?;
     write_events(events, out)
 }
 
 // Writes the session of a header and events.
 fn write_session<K: Sink>(header: &Header, events: &[Event], out: &mut K) -> Result<(), WriteError>
     requires header { IsHeader header.now }
-    requires events { AllByRecursion IsEvent events.now }
-    ensures ok { OnOk result (K.held out.new ≡ after_adding (K.held out.old) (session header.now events.now)) }
+    requires events { AllByRecursion (IsEvent form) events.now }
+    ensures ok { OnOk result (K.held out.new ≡ after_adding (K.held out.old) (spelled form header.now events.now)) }
     ensures ok_count { OnOk result (K.faults out.new ≡ K.faults out.old) }
-    ensures err { OnErr result (AddsFront (session header.now events.now) (K.held out.old) (K.held out.new)) }
+    ensures err { OnErr result (AddsFront (spelled form header.now events.now) (K.held out.old) (K.held out.new)) }
     ensures err_count { OnErr result (Rose (K.faults out.old) (K.faults out.new)) }
 {
     write_begun(header, events, out)?;
@@ -89,7 +93,7 @@ impl Events {
 
     /// Appends one event. Without memory the list is unchanged.
     pub(crate) fn push(&mut self, event: Event) -> Mem<()>
-        requires { IsEvent event }
+        requires { IsEvent form event }
         ensures ok { OnOk result (self.new ≡ self.old ++ event ∷ []) }
         ensures err { OnErr result (self.new ≡ self.old) }
     {
@@ -99,7 +103,7 @@ impl Events {
 
     // A list of this event alone.
     fn one(alloc: Global, event: Event) -> Mem<Events>
-        requires { IsEvent event }
+        requires { IsEvent form event }
         ensures { IfOk result (λ events. events ≡ event ∷ []) }
     {
         let mut events = Events::new(alloc);
@@ -151,7 +155,7 @@ impl Events {
     /// The events as a vector. Takes no memory.
     pub(crate) fn into_vec(self) -> Vec<Event>
         ensures items { result.items ≡ self }
-        ensures lawful { AllByRecursion IsEvent self }
+        ensures lawful { AllByRecursion (IsEvent form) self }
     {
         self.events
     }
@@ -159,10 +163,10 @@ impl Events {
     /// Writes the session of a header with these events. After `Failed` a front of it was written. Takes no memory.
     pub fn write<K: Sink>(&self, header: &Header, out: &mut K) -> Result<(), WriteError>
         requires { IsHeader header.now }
-        ensures lawful { AllByRecursion IsEvent self.now }
-        ensures ok { OnOk result (K.held out.new ≡ after_adding (K.held out.old) (session header.now self.now)) }
+        ensures lawful { AllByRecursion (IsEvent form) self.now }
+        ensures ok { OnOk result (K.held out.new ≡ after_adding (K.held out.old) (spelled form header.now self.now)) }
         ensures ok_count { OnOk result (K.faults out.new ≡ K.faults out.old) }
-        ensures err { OnErr result (AddsFront (session header.now self.now) (K.held out.old) (K.held out.new)) }
+        ensures err { OnErr result (AddsFront (spelled form header.now self.now) (K.held out.old) (K.held out.new)) }
         ensures err_count { OnErr result (Rose (K.faults out.old) (K.faults out.new)) }
     {
         write_session(header, &self.events, out)

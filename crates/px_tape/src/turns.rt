@@ -1,7 +1,7 @@
 //! The turns that a sink made.
 ghost use Rattle.std.specs.Prelude.{◌≡◌, ◌+◌, ◌≤◌, ◌<◌, ◌++◌, ◌∷◌, [], length, OnOk, IfSome, IsNone};
 ghost use Rattle.px_session.specs.EventRules.{IsEvent};
-ghost use Rattle.px_tape.specs.Tape.{turn_in, turns_in, total, count_of};
+ghost use Rattle.px_tape.specs.Tape.{form, turn_in, turns_in, total, count_of};
 
 use crate::events::Events;
 use px_session::Event;
@@ -35,9 +35,13 @@ impl Model for SinkTurns {
 
 // A turn, as an event.
 fn turn_event(sink: u8, frames: u32, take: u32) -> Event
-    ensures { IsEvent result × (turn_in result ≡ 1) }
+    ensures { IsEvent form result × (turn_in result ≡ 1) }
 {
-    Event::Turn { sink, frames, take }
+    Event::Turn {
+        sink,
+        frames: u64::from(frames),
+        take: u64::from(take),
+    }
 }
 
 impl SinkTurns {
@@ -80,7 +84,7 @@ impl SinkTurns {
 
     // Removes the first turn that is left, as an event.
     fn next(&mut self) -> Option<Event>
-        ensures event { IfSome result (λ event. IsEvent event × (turn_in event ≡ 1)) }
+        ensures event { IfSome result (λ event. IsEvent form event × (turn_in event ≡ 1)) }
         ensures count { length self.old.turns ≡ count_of result + length self.new.turns }
         ensures none { IsNone result → self.new.turns ≡ [] }
     {
@@ -91,7 +95,7 @@ impl SinkTurns {
 
 /// Removes the next turn of a sink, as an event, where it has one more.
 pub(crate) fn next_turn(turns: &mut [SinkTurns], sink: u8) -> Option<Event>
-    ensures event { IfSome result (λ event. IsEvent event × (turn_in event ≡ 1)) }
+    ensures event { IfSome result (λ event. IsEvent form event × (turn_in event ≡ 1)) }
     ensures count { total turns.old ≡ count_of result + total turns.new }
 {
     match turns.split_first_mut() {

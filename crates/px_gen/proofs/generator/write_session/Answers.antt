@@ -3,7 +3,7 @@ use Rattle.std.specs.List.{AllByRecursion}
 use Rattle.px_session.specs.declared.event.Event.{Event}
 use Rattle.px_session.specs.Writing.{FitsEvent}
 use Rattle.px_gen.specs.declared.writing.Stop.{Stop}
-use Rattle.px_gen.specs.Generator.{generated, opening}
+use Rattle.px_gen.specs.Generator.{form, generated, opening}
 use Rattle.px_gen.proofs.Fitting.{opening_fits}
 use Rattle.px_gen.proofs.Gathering.{head, nothing, head_gathered, head_stopped, steps_end, steps_from, end_gathered, end_stopped}
 use Rattle.px_gen.proofs.generator.write_session.Goals as goal
@@ -15,7 +15,7 @@ pub returns-in_default-clause-bytes : goal.returns-in_default-clause-bytes
 returns-in_default-clause-bytes g c = ([], generated c.args.number c.args.count, refl, nothing (g.K.Sink.held c.args.out.now) c.args.pieces.now.bytes c.requires)
 
 pub write_front-requires-clause-events : goal.write_front-requires-clause-events
-write_front-requires-clause-events g c = subst (λ (es : List Event). AllByRecursion FitsEvent es) (sym (c.as_slice.ensures.value ∙ c.in-Ok-opening.ensures)) opening_fits
+write_front-requires-clause-events g c = subst (λ (es : List Event). AllByRecursion (FitsEvent form) es) (sym (c.as_slice.ensures.value ∙ c.in-Ok-opening.ensures)) opening_fits
 
 pub returns-in-Err-clause-bytes : goal.returns-in-Err-clause-bytes
 returns-in-Err-clause-bytes g c =

@@ -2,11 +2,12 @@ use Rattle.std.proofs.Common.{◌≡◌, take}
 use Rattle.std.specs.List.{flat_map}
 use Rattle.px_ends.specs.Visible.{after_adding}
 use Rattle.px_session.specs.Spelling.{event}
+use Rattle.px_gen.specs.Generator.{form}
 use Rattle.px_gen.proofs.writing.write_events.Given as goal
 
 -- the events so far were added, and no write has failed
 abbrev pub invariant-loop-e : goal.invariant-loop-e
 invariant-loop-e g l = record {
-  added : g.K.Sink.held l.out ≡ after_adding (g.K.Sink.held l.fn.out) (flat_map event (take l.e-index l.events));
+  added : g.K.Sink.held l.out ≡ after_adding (g.K.Sink.held l.fn.out) (flat_map (event form) (take l.e-index l.events));
   sound : g.K.Sink.faults l.out ≡ g.K.Sink.faults l.fn.out;
 }
