@@ -7,6 +7,7 @@
   conformance/reckon.py --formats NUMBER FORMAT > SESSION.session     streams of every format to a sink of this one, with dice
   conformance/reckon.py --sinks NUMBER TURNS > SESSION.session    streams of two clients on three sinks, with dice
   conformance/reckon.py --moves NUMBER TURNS > SESSION.session    streams of two clients that move between three sinks, with dice
+  conformance/reckon.py --stops NUMBER TURNS > SESSION.session    streams that live and move on three sinks, two of whose devices stop, with dice
   conformance/reckon.py --lanes NUMBER TURNS > SESSION.session    streams that come, are told everything, move and leave, with dice
   conformance/reckon.py --volumes NUMBER CALLS > SESSION.session  volumes and mutes of a sink and its streams, with dice
   conformance/reckon.py --volumes-18 NUMBER CALLS > SESSION.session     the same at version 18: volumes that are set, that aren't, and relative ones
@@ -141,6 +142,7 @@ class Sink:
         self.group = volumes.Group(spec.spec[1])
         self.consumed = self.filled = self.horizon = 0
         self.frames = []  # from frame 0 on
+        self.fails = self.stopped = False  # its device fails at the next turn; it has failed
         self.inputs = {}
         self.waiting, self.notices = [], []
 
@@ -152,16 +154,20 @@ class Sink:
         return b"".join(samples.sample_of(self.spec.spec[0], min(max(value, -most - 1), most)) for value in sums)
 
     def turn(self, frames, taken):
+        """What it plays. A turn whose device fails plays nothing, drops the frames that can still change, and mixes none."""
+        self.stopped = self.stopped or self.fails
+        frames = 0 if self.stopped else frames
         played = self.frames[self.consumed : self.consumed + frames]
         self.consumed += frames
         horizon = min(self.filled, self.consumed + self.spec.guard)
         for number in sorted(self.inputs):
             self.notices += [(number, word, 0) for word in self.inputs[number].go(horizon - self.horizon)]
         self.horizon = horizon
+        self.filled = horizon if self.stopped else self.filled
         for _ in range(taken):
             self.take(*self.waiting.pop(0))
         del self.frames[self.horizon :]
-        last = self.consumed + self.spec.depth
+        last = self.horizon if self.stopped else self.consumed + self.spec.depth
         self.frames += [self.mix(ahead) for ahead in range(last - self.horizon)]
         self.filled = last
         for number in sorted(self.inputs):
@@ -320,9 +326,15 @@ class Server:
             del self.clients[event[1]]
         elif kind == 4:
             self.end(event[1], 4)
+        elif kind == 7:
+            self.sinks[event[1]].fails = True
         elif kind == 5:
-            played = self.sinks[event[1]].turn(event[2], event[3])
-            if played:
+            sink = self.sinks[event[1]]
+            stops = sink.fails and not sink.stopped
+            played = sink.turn(event[2], event[3])
+            if stops:
+                self.said += bytes([4, event[1]]) + sink.filled.to_bytes(8, "big")
+            elif played:
                 self.said += bytes([3, event[1]]) + len(played).to_bytes(4, "big") + b"".join(played)
         elif kind == 6:
             for _ in range(event[3]):
@@ -688,7 +700,7 @@ class Server:
 
 
 def reckoned(session):
-    cookie, sinks, events = read_session(session)
+    cookie, sinks, events, _ = read_session(session)
     server = Server(cookie, sinks)
     for event in events[:-1]:
         server.event(event)
@@ -806,12 +818,32 @@ def thrown_sinks(number, turns):
 def thrown_moves(number, turns):
     """Six streams of two clients that move between three sinks, while they play, wait, are corked and asked, and change their volumes."""
     dice = random.Random(number)
+    words = ("data",) * 8 + ("move",) * 2 + ("cork", "flush", "drain", "latency", "volume", "sink-volume", "mute", "input-info")
+    lines = list(moving_lines(dice, turns, words))
+    said = [f"# Thrown with the dice of {number}: six streams that move between three sinks, {turns} turns. Its output is conformance/reckon.py's.", ""]
+    return "\n".join([*said, *lines[:3], "", *taken(lines, dice), "end", ""])
+
+
+def thrown_stops(number, turns):
+    """The same with all commands of a stream's life, while the device of one sink stops, and later that of a second. Each is told to stop twice."""
+    dice, form = random.Random(number), ["form 2"]
+    words = ("data",) * 8 + ("move",) * 2 + CONTROLS + ("volume", "sink-volume", "mute", "input-info", "sink-info")
+    lines = list(moving_lines(dice, turns, words))
+    places = [at for at, line in enumerate(lines) if line.startswith("turn")]
+    first, second = dice.sample([sink.split()[0] for sink in SINKS], 2)
+    for part, name in ((10, second), (7, second), (5, first), (3, first)):
+        lines.insert(places[len(places) * part // 12], f"stop {name}")
+    said = [f"# Thrown with the dice of {number}: six streams that move between three sinks, two of which stop, {turns} turns. Its output is conformance/reckon.py's.", ""]
+    return "\n".join([*said, *form, *lines[:3], "", *taken(lines, dice, form), "end", ""])
+
+
+def moving_lines(dice, turns, words):
+    """Two clients with a stream each on each of three sinks of one rate, then turns with any of these commands before each."""
     sinks = [sink.replace(" 8000 ", " 48000 ") for sink in SINKS]
     names = [sink.split()[0] for sink in sinks]
     lines = [*(f"sink {sink}" for sink in sinks), "connect 1", "auth 1 tag 0 version 13", "connect 2", "auth 2 tag 0 version 13"]
     asked = [(conn, text.replace(" 8000 ", " 48000 ")) for conn, _, text in PLACED]
     lines += [f"create {conn} {text} maxlength 1000 tlength 400 prebuf {dice.choice((0, 40))} minreq 20" for conn, text in asked]
-    words = ("data",) * 8 + ("move",) * 2 + ("cork", "flush", "drain", "latency", "volume", "sink-volume", "mute", "input-info")
     for _ in range(turns):
         for _ in range(dice.randrange(5)):
             at, word, sink = dice.randrange(len(asked)), dice.choice(words), dice.choice(names)
@@ -826,11 +858,13 @@ def thrown_moves(number, turns):
                 "volume": f" volume {dice.choice((0, 32768, 65536, 80000))}", "sink-volume": f" volume {dice.choice((32768, 65536))}",
                 "mute": f" {dice.choice(('on', 'off'))}", "move": f" sink {sink}",
             }
-            what = f"sink {sink}" if word == "sink-volume" else f"input {at}" if word in ("move", "volume", "mute", "input-info") else f"stream {at % 3}"
+            if word == "attributes":
+                frames = dice.choice((100, 400, 1000)), dice.choice((100, 400)), dice.choice((0, 40, 100)), dice.choice((2, 50))
+                more[word] = " maxlength {} tlength {} prebuf {} minreq {}".format(*frames)
+            what = f"sink {sink}" if word in ("sink-volume", "sink-info") else f"input {at}" if word in ("move", "volume", "mute", "input-info") else f"stream {at % 3}"
             lines.append(f"{word} {conn} {what}{more.get(word, '')}")
         lines.append(f"turn {dice.choice(names)} {dice.randrange(40)} take 0")
-    said = [f"# Thrown with the dice of {number}: six streams that move between three sinks, {turns} turns. Its output is conformance/reckon.py's.", ""]
-    return "\n".join([*said, *lines[:3], "", *taken(lines, dice), "end", ""])
+    return lines
 
 
 def thrown_volumes(number, count, version=13):
@@ -870,9 +904,10 @@ def thrown_lanes(number, turns):
     return "\n".join([*said, *lines[:3], "", *taken(lines, random.Random(number)), "end", ""])
 
 
-def taken(lines, dice):
-    """The events of these lines; each turn takes some of the messages that wait, its sink's first turn plays no frame, and some notices are collected behind it."""
-    cookie, sinks, events = read_session(make("\n".join([*lines, "end", ""])))
+def taken(lines, dice, front=()):
+    """The events of these lines, which follow others that make none; each turn takes some of the messages that wait and plays no more
+    frames than are there, and some notices are collected after it."""
+    cookie, sinks, events, _ = read_session(make("\n".join([*front, *lines, "end", ""])))
     server = Server(cookie, sinks)
     for line, event in zip(lines[len(sinks) :], events):
         if event[0] != 5:
@@ -880,7 +915,8 @@ def taken(lines, dice):
             server.event(event)
             continue
         sink = server.sinks[event[1]]
-        name, frames, take = sink.spec.name.decode(), event[2] if sink.filled else 0, dice.randrange(len(sink.waiting) + 1)
+        frames = min(event[2], sink.filled - sink.consumed)
+        name, take = sink.spec.name.decode(), dice.randrange(len(sink.waiting) + 1)
         server.event((5, event[1], frames, take))
         yield f"turn {name} {frames} take {take}"
         count = dice.randrange(len(sink.notices) + 1)
@@ -926,7 +962,7 @@ def crowded():
 
 def collected(lines, dice):
     """The events of these lines, with some of the notices collected behind each turn."""
-    cookie, sinks, events = read_session(make("\n".join([*lines, "end", ""])))
+    cookie, sinks, events, _ = read_session(make("\n".join([*lines, "end", ""])))
     server = Server(cookie, sinks)
     for line, event in zip(lines[len(sinks) :], events):
         yield line
@@ -938,7 +974,7 @@ def collected(lines, dice):
 
 
 THROWS = {
-    "--dice": thrown, "--life": thrown_life, "--sinks": thrown_sinks, "--moves": thrown_moves, "--volumes": thrown_volumes, "--volumes-18": lambda *dice: thrown_volumes(*dice, 18), "--lanes": thrown_lanes,
+    "--dice": thrown, "--life": thrown_life, "--sinks": thrown_sinks, "--moves": thrown_moves, "--stops": thrown_stops, "--volumes": thrown_volumes, "--volumes-18": lambda *dice: thrown_volumes(*dice, 18), "--lanes": thrown_lanes,
 }
 
 

@@ -13,11 +13,11 @@ ENDINGS = {1: "a protocol fault", 2: "a limit", 3: "a kill", 4: "want of memory"
 
 
 def segments(data, sinks):
-    """What was sent before each turn that played, with that turn, and what ended the output early, or None."""
+    """What was sent before each turn that played or stopped its sink, with that turn, and what ended the output early, or None."""
     records, found, fault = Records(data, sinks), [([], None)], None
     try:
         for record in records:
-            if record[0] == 3:
+            if record[0] in (3, 4):
                 found[-1] = found[-1][0], record
                 found.append(([], None))
             else:
@@ -48,7 +48,7 @@ class Run:
     """A run: its sinks, its streams in the order in which they were made, and what ended its output early, or None."""
 
     def __init__(self, session, data):
-        self.cookie, specs, events = session
+        self.cookie, specs, events, _ = session
         self.sinks = [Sink(*it) for it in enumerate(specs)]
         self.streams, self.owned, self.inputs = [], {}, {}
         self.bytes, self.names, self.late, self.spoken = {}, {}, set(), Spoken()
@@ -63,9 +63,11 @@ class Run:
     def event(self, event):
         """Plays an event, and answers whether the output goes on."""
         kind, which = event[:2]
-        if kind in (5, 6) and which >= len(self.sinks):
+        if kind in (5, 6, 7) and which >= len(self.sinks):
             return False
-        if kind == 5:
+        if kind == 7:
+            self.sinks[which].fails = True
+        elif kind == 5:
             return self.turn(self.sinks[which], *event[2:])
         if kind == 6:
             self.sinks[which].collect()
@@ -84,16 +86,21 @@ class Run:
         return True
 
     def turn(self, sink, frames, taken):
-        if frames:
+        stops = sink.fails and not sink.stopped
+        if stops or frames and not sink.stopped:
             self.hear_rest()
-            played = self.segments[self.segment][1]
-            if played is None:
+            record = self.segments[self.segment][1]
+            if record is None:
                 return False
-            if played[1:3] != (sink.number, frames):
+            if record[:2] != (4 if stops else 3, sink.number) or not stops and record[2] != frames:
                 raise Wrong(OTHER)
-            sink.sound += played[3]
+            sink.sound += b"" if stops else record[3]
             self.segment, self.place = self.segment + 1, 0
         sink.turn(frames, taken)
+        if stops:
+            if record[2] != sink.filled:
+                raise Wrong(OTHER)
+            sink.marks.append((sink.now(), "stopped", f"its device stopped, {sink.filled} frames filled"))
         return True
 
     # what the server said

@@ -22,9 +22,9 @@ def program():
     return os.path.join(TOP, "crates", "pulse_rw", "out", "pulse_rw")
 
 
-def waiting(session, sink, frames):
-    """How many messages wait for a sink at the end of these events, or, without a count of frames, how many of its notices."""
-    asked = session + spelled_turn(sink, frames, NONE)
+def waiting(session, sink, frames, form):
+    """How many messages wait for a sink at the end of a session's events so far, or, without a count of frames, how many of its notices."""
+    asked = session + spelled_turn(sink, frames, NONE, form)
     try:
         ran = subprocess.run([program(), "replay"], input=asked, stdout=subprocess.DEVNULL, stderr=subprocess.PIPE)
     except OSError as fault:

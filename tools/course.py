@@ -131,6 +131,7 @@ class Sink:
         self.consumed = self.filled = self.horizon = 0
         self.waiting, self.streams = deque(), []
         self.leaving = 0  # streams that it gave up, which nobody knows yet
+        self.fails, self.stopped = False, False  # whether its device fails at the next turn, and whether it has stopped
         self.sound, self.turns, self.marks = bytearray(), [], []
 
     def at(self, frame):
@@ -144,15 +145,18 @@ class Sink:
         self.waiting.append((kind, stream, more))
 
     def turn(self, frames, taken):
-        """The streams go on to the new horizon, then the messages are taken, then all is mixed up to the depth."""
+        """The streams go on to the new horizon, then the messages are taken, then all is mixed up to the depth. Where the device failed no
+        frame is played, and those from the new horizon on are dropped."""
+        self.stopped = self.stopped or self.fails
+        frames = 0 if self.stopped else frames
         self.consumed += frames
         horizon = min(self.filled, self.consumed + self.spec.guard)
         for stream in self.streams:
             stream.go(horizon - self.horizon, self.horizon)
-        self.horizon = horizon
+        self.horizon, self.filled = horizon, horizon if self.stopped else self.filled
         for _ in range(min(taken, len(self.waiting))):
             self.take(*self.waiting.popleft())
-        self.filled = self.consumed + self.spec.depth
+        self.filled = self.horizon if self.stopped else self.consumed + self.spec.depth
         self.turns.append((self.consumed, self.horizon))
         for stream in self.streams:
             stream.levels[-1].append((self.now(), stream.left()))

@@ -6,7 +6,7 @@ from functools import lru_cache
 import asking
 import packets
 import wire
-from recording import PIECE, SINK_FORMATS, Scene, SinkSpec, spelled_bytes, spelled_header, spelled_turn
+from recording import FORMS, ONE, SINK_FORMATS, TWO, Scene, SinkSpec, spelled_bytes, spelled_event, spelled_header, spelled_turn
 from words import LONGEST, SAMPLES, Words, Wrong, hex_of, lines_of, number_of, unquoted, words_of
 
 
@@ -16,7 +16,9 @@ class Maker:
     def __init__(self):
         self.scene = Scene()
         self.made = bytearray()
-        self.piece = PIECE
+        self.form, self.piece = ONE, ONE.piece
+        self.front = 0  # how many bytes of the header the lines before the first sink make
+        self.said = False
         self.begun = False
         self.ended = False
 
@@ -24,7 +26,9 @@ class Maker:
         word = words.take("a word")
         if self.ended:
             raise Wrong("nothing may follow the end")
-        if word in ("cookie", "sink"):
+        if word == "form":
+            self.choose(words)
+        elif word in ("cookie", "sink"):
             if self.begun:
                 raise Wrong(f"{word} belongs before the first event")
             self.cookie(words) if word == "cookie" else self.sink(words)
@@ -33,22 +37,32 @@ class Maker:
                 self.begin()
             self.event(word, words)
         words.end()
+        self.said = True
 
     def count(self):
         """How many bytes are made; of the header, which is spelled as a whole, as many as its lines make up to here."""
-        return len(self.made) if self.begun else len(spelled_header(self.scene.cookie, self.scene.sinks)) if self.scene.sinks else 260
+        return len(self.made) if self.begun else len(self.header()) if self.scene.sinks else self.front
+
+    def header(self):
+        return spelled_header(self.scene.cookie, self.scene.sinks, self.form)
 
     def begin(self):
         if not self.scene.sinks:
             raise Wrong("a session has at least one sink before its first event")
-        self.made += spelled_header(self.scene.cookie, self.scene.sinks)
+        self.made += self.header()
         self.begun = True
+
+    def choose(self, words):
+        if self.said:
+            raise Wrong("form belongs before all other lines")
+        self.form = FORMS[number_of(words.take("a form"), "a form", 1, len(FORMS)) - 1]
+        self.front, self.piece = 4, self.form.piece
 
     def cookie(self, words):
         cookie = hex_of(words)
         if len(cookie) != 256:
             raise Wrong(f"a cookie has 256 bytes, and this one has {len(cookie)}")
-        self.scene.cookie = cookie
+        self.scene.cookie, self.front = cookie, 260
 
     def sink(self, words):
         name = unquoted(words.take("the sink's name"))
@@ -78,20 +92,24 @@ class Maker:
             self.made.append(0)
             self.ended = True
         elif word == "split":
-            none = words.takes("none")
-            self.piece = PIECE if none else number_of(words.take("a count"), "a piece's bytes", 1, PIECE)
+            none, most = words.takes("none"), self.form.piece
+            self.piece = most if none else number_of(words.take("a count"), "a piece's bytes", 1, most)
         elif word in ("connect", "close", "cut"):
             conn = connection(words)
-            self.made += bytes([{"connect": 1, "close": 3, "cut": 4}[word]]) + conn.to_bytes(4, "big")
+            self.made += spelled_event(({"connect": 1, "close": 3, "cut": 4}[word], conn), self.form)
             if word == "connect":
                 self.scene.connect(conn)
         elif word in ("turn", "collect"):
-            sink = self.sink_number(words)
-            frames = number_of(words.take("the frames"), "a count of frames") if word == "turn" else None
+            sink, most = self.sink_number(words), self.form.greatest()
+            frames = number_of(words.take("the frames"), "a count of frames", 0, most) if word == "turn" else None
             words.wants("take")
             every = words.takes("all")
-            taken = asking.waiting(bytes(self.made), sink, frames) if every else number_of(words.take("a count"), "what is taken")
-            self.made += spelled_turn(sink, frames, taken)
+            taken = asking.waiting(bytes(self.made), sink, frames, self.form) if every else number_of(words.take("a count"), "what is taken", 0, most)
+            self.made += spelled_turn(sink, frames, taken, self.form)
+        elif word == "stop":
+            if self.form is not TWO:
+                raise Wrong("a session of form 1 has no stop: its first line says `form 2`")
+            self.made += spelled_event((7, self.sink_number(words)), self.form)
         elif word == "bytes":
             conn = connection(words)
             words.takes("hex")
@@ -113,7 +131,7 @@ class Maker:
 
     def cut(self, conn, data):
         for at in range(0, max(len(data), 1), self.piece):
-            self.made += spelled_bytes(conn, data[at : at + self.piece])
+            self.made += spelled_bytes(conn, data[at : at + self.piece], self.form)
 
 
 def connection(words):

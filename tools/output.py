@@ -5,8 +5,8 @@
   tools/output.py wav FILE --session FILE.prs --sink NAME > out.wav
   tools/output.py picture FILE --session FILE.prs > run.svg
 
-show prints a line for each packet sent, each connection ended and each turn that played, whose sound it tells as levels and counts,
-or whole. It wants the session that was replayed where sound was played, since the session has the sinks' formats.
+show prints a line for each packet sent, each connection ended, each turn that played, whose sound it tells as levels and counts,
+or whole, and each device that stopped. It wants the session that was replayed where sound was played, since the session has the sinks' formats.
 wav writes what one sink played, as a WAV file. picture draws the run, a lane for each sink and each stream. FILE is standard input where it is `-`."""
 
 import sys
@@ -14,7 +14,7 @@ import sys
 import wire
 from command import ended
 from picture import picture
-from recording import read_session
+from recording import Session, read_session
 from records import Asked, Records
 from replies import sent_words
 from short import short
@@ -40,6 +40,9 @@ def told(record, sinks, asked):
         if reason == 1 or fault or at:
             said.append(f"{FAULTS.get(fault, f'fault {fault}')} at byte {at} of what it sent")
         return f"closed {conn}: {', '.join(said)}\n"
+    if record[0] == 4:
+        sink, filled = record[1:]
+        return line_of(["stopped", quoted(sinks[sink].name) if sinks else f"@{sink}", "filled", str(filled)])
     sink, frames, sound = record[1:]
     return line_of(["played", quoted(sinks[sink].name), str(frames), "frames:", *sound_words(sinks[sink].spec, sound)])
 
@@ -52,8 +55,9 @@ def sound_words(spec, sound):
 
 def show(data, session=None):
     """The lines of an output, and what ended it early, or None."""
-    cookie, sinks, events = session or (None, None, [])
-    records, asked, said = Records(data, sinks), Asked(cookie, events), []
+    session = session or Session(None, None, [])
+    sinks = session.sinks
+    records, asked, said = Records(data, sinks), Asked(session.cookie, session.events), []
     try:
         for record in records:
             said.append(told(record, sinks, asked))
@@ -77,7 +81,7 @@ def wav_samples(code, sound):
 
 def wav(data, session, name):
     """The WAV file of what the sink of that name played, and what ended the output early, or None."""
-    sinks = session[1]
+    sinks = session.sinks
     at = next((at for at, sink in enumerate(sinks) if sink.name == name.encode()), None)
     if at is None:
         raise Wrong(f"the session has no sink {name}")

@@ -27,6 +27,7 @@ MARKS = {  # a mark's letter, its colour and what the legend says of it
     "prebuf": ("P", "#555555", "prebuf"),
     "attributes": ("A", "#555555", "buffer attributes"),
     "ended": ("E", "#222222", "ended"),
+    "stopped": ("X", "#c62020", "a sink's device stopped"),
 }
 WHY = {"late": ", too late to be heard", "lost": ", lost by an overflow"}
 STYLE = """text{font:11px sans-serif;fill:#222}.s{font-size:9px;fill:#666}.b{font-weight:bold}.lane{fill:#f7f7f5;stroke:#ddd}

@@ -1,11 +1,43 @@
 """Recorded sessions as bytes: the header, the events, and the scene that they set."""
 
+from typing import NamedTuple
+
 import packets
 import wire
 from words import Wrong, quoted
 
-PIECE = 65_536  # the most bytes of one Bytes event
 SINK_FORMATS = (0, 3, 4, 7, 8, 9, 10, 11, 12)
+
+
+class Form(NamedTuple):
+    """What sets the two forms of a session apart."""
+
+    number: int
+    size: int  # the bytes of a count and of a length
+    piece: int  # the most bytes of one Bytes event
+    last: int  # the greatest kind of an event
+
+    def magic(self):
+        return b"PRS%d" % self.number
+
+    def greatest(self):
+        """The greatest count."""
+        return (1 << 8 * self.size) - 1
+
+    def count(self, value):
+        return value.to_bytes(self.size, "big")
+
+
+ONE, TWO = FORMS = Form(1, 4, 65_536, 6), Form(2, 8, 1_048_576, 7)
+
+
+class Session(NamedTuple):
+    """A session: `events` has the kind and the fields of each event, the end byte's too."""
+
+    cookie: bytes
+    sinks: list
+    events: list
+    form: Form = ONE
 
 
 class SinkSpec:
@@ -29,18 +61,27 @@ class SinkSpec:
         return said + ["guard", str(self.guard), "depth", str(self.depth)]
 
 
-def spelled_header(cookie, sinks):
-    return b"PRS1" + cookie + bytes([len(sinks)]) + b"".join(sink.spelled() for sink in sinks)
+def spelled_header(cookie, sinks, form=ONE):
+    return form.magic() + cookie + bytes([len(sinks)]) + b"".join(sink.spelled() for sink in sinks)
 
 
-def spelled_bytes(conn, data):
-    return b"\x02" + conn.to_bytes(4, "big") + len(data).to_bytes(4, "big") + data
+def spelled_bytes(conn, data, form=ONE):
+    return b"\x02" + conn.to_bytes(4, "big") + form.count(len(data)) + data
 
 
-def spelled_turn(sink, frames, taken):
+def spelled_turn(sink, frames, taken, form=ONE):
     """A Turn, or a Collect where there is no count of frames."""
-    front = bytes([6, sink]) if frames is None else bytes([5, sink]) + frames.to_bytes(4, "big")
-    return front + taken.to_bytes(4, "big")
+    front = bytes([6, sink]) if frames is None else bytes([5, sink]) + form.count(frames)
+    return front + form.count(taken)
+
+
+def spelled_event(event, form):
+    """An event of a session, as `read_event` gives it, or the end byte."""
+    if event[0] == 2:
+        return spelled_bytes(*event[1:], form)
+    if event[0] in (5, 6):
+        return spelled_turn(*event[1:], form)
+    return bytes(event) if event[0] in (0, 7) else bytes([event[0]]) + event[1].to_bytes(4, "big")
 
 
 class Place:
@@ -84,46 +125,50 @@ def read_sink(place, names):
 
 
 def read_header(place):
-    """The cookie and the sinks."""
-    if not b"PRS1".startswith(place.data[:4]):
+    """The form, the cookie and the sinks."""
+    forms = [form for form in FORMS if form.magic().startswith(place.data[:4])]
+    if not forms:
         raise Wrong("refused at 0: magic")
     place.take(4)
     cookie, sinks = place.take(256), []
     for _ in range(place.field(lambda: place.number(1), lambda n: 1 <= n <= 16)):
         sinks.append(read_sink(place, [sink.name for sink in sinks]))
-    return cookie, sinks
+    return forms[0], cookie, sinks
 
 
-def read_event(place):
-    """An event: its kind and its fields."""
+def read_event(place, form):
+    """An event of a session of this form: its kind and its fields; a Collect has None for frames."""
     start, kind = place.at, place.number(1)
-    if kind > 6:
+    if kind > form.last:
         raise Wrong(f"refused at {start}: kind {kind}")
     if kind == 0:
         if place.at < len(place.data):
             raise Wrong(f"refused at {place.at}: trailing")
         return (0,)
     if kind == 5:
-        return 5, place.number(1), place.number(), place.number()
+        return 5, place.number(1), place.number(form.size), place.number(form.size)
     if kind == 6:
-        return 6, place.number(1), None, place.number()
+        return 6, place.number(1), None, place.number(form.size)
+    if kind == 7:
+        return 7, place.number(1)
     conn = place.number()
     if kind != 2:
         return kind, conn
-    length = place.number()
-    if length > PIECE:
+    length = place.number(form.size)
+    if length > form.piece:
         raise Wrong(f"refused at {start}: too long {length}")
     return 2, conn, place.take(length)
 
 
 def read_session(data):
-    """The cookie, the sinks and the events of a session; Wrong says where and why it is none."""
+    """What a session says; Wrong says where and why it is none."""
     place = Place(data)
-    cookie, sinks = read_header(place)
+    form, cookie, sinks = read_header(place)
     events = []
     while not events or events[-1][0] != 0:
-        events.append(read_event(place))
-    return cookie, sinks, events
+        events.append(read_event(place, form))
+    return Session(cookie, sinks, events, form)
+
 
 class Scene:
     """What the lines of a session speak of: the cookie, the sinks, and each connection's version, tags and streams.

@@ -81,11 +81,11 @@ class Records:
             return 1, conn, place.take(place.number())
         if kind == 2:
             return 2, place.number(), place.number(1), place.number(1), place.number(8)
-        if kind != 3:
+        if kind not in (3, 4):
             raise Wrong(f"no record begins with {kind}, at {start}")
-        sink, frames = place.number(1), place.number()
-        if self.sinks is None:
+        sink, frames = place.number(1), place.number(4 if kind == 3 else 8)
+        if self.sinks is None and kind == 3:
             raise Wrong(f"sound was played at {start}: say the session that was replayed, with --session")
-        if sink >= len(self.sinks):
+        if self.sinks is not None and sink >= len(self.sinks):
             raise Wrong(f"the session has no sink {sink}, at {start}")
-        return 3, sink, frames, place.take(frames * wire.frame_size(self.sinks[sink].spec))
+        return (4, sink, frames) if kind == 4 else (3, sink, frames, place.take(frames * wire.frame_size(self.sinks[sink].spec)))

@@ -3,25 +3,27 @@
 import packets
 import wire
 from maker import heard_frame
-from recording import PIECE, Scene, read_session
+from recording import ONE, Scene, read_session
 from words import Words, Wrong, hex_words, line_of, quoted, words_of
 
 
 class Teller:
     """Tells a session, event by event."""
 
-    def __init__(self, cookie, sinks, events):
+    def __init__(self, session):
         self.scene = Scene()
-        self.scene.cookie, self.scene.sinks = cookie, sinks
-        self.events = events
+        self.scene.cookie, self.scene.sinks = session.cookie, session.sinks
+        self.events, self.form = session.events, session.form
         self.streams = {}
-        self.piece = PIECE
+        self.piece = self.form.piece
         self.text = []
 
     def say(self, *words):
         self.text.append(line_of(words))
 
     def tell(self):
+        if self.form is not ONE:
+            self.say("form", str(self.form.number))
         if self.scene.cookie != bytes(256):
             self.say("cookie", *hex_words(self.scene.cookie))
         for sink in self.scene.sinks:
@@ -42,6 +44,8 @@ class Teller:
             name = self.sink_word(event[1])
             front = ["collect", name] if event[2] is None else ["turn", name, str(event[2])]
             self.say(*front, "take", str(event[3]))
+        elif event[0] == 7:
+            self.say("stop", self.sink_word(event[1]))
         else:
             self.say({1: "connect", 3: "close", 4: "cut"}[event[0]], str(event[1]))
             if event[0] == 1:
@@ -116,11 +120,11 @@ class Teller:
     def split(self, count, size):
         """Says how the next bytes are cut, where that isn't as the last ones were."""
         if count == 1 and size > self.piece:
-            self.piece = PIECE
+            self.piece = self.form.piece
             self.say("split", "none")
         elif count > 1 and size != self.piece:
             self.piece = size
-            self.say("split", "none" if size == PIECE else str(size))
+            self.say("split", "none" if size == self.form.piece else str(size))
 
     def raw(self, conn, data):
         self.split(1, len(data))
@@ -147,4 +151,4 @@ def data_words(conn, descriptor):
 
 def show(data):
     """The text of a session."""
-    return Teller(*read_session(data)).tell()
+    return Teller(read_session(data)).tell()

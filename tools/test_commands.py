@@ -51,6 +51,10 @@ class Lines(unittest.TestCase):
         for offset, found in ((590, number), (599, number), (600, number + 1), (0, 1), (279, 1)):
             self.assertEqual(line_at(text, offset)[0], found)
         self.assertEqual(line_at(text, 590)[1], "turn out 0 take 0")
+        formed = "# a comment\nform 2\ncookie 00x256\n" + AUTH_TEXT + "stop out\nend\n"
+        stop = formed.split("\n").index("stop out") + 1
+        for offset, found in ((0, 2), (3, 2), (4, 3), (259, 3), (260, 4), (279, 4), (280, 5), (594, stop), (595, stop), (596, stop + 1)):
+            self.assertEqual(line_at(formed, offset)[0], found)
         self.assertRaisesRegex(Wrong, "the session has 601 bytes, and so none at 601", line_at, text, 601)
 
     def test_command(self):
@@ -74,11 +78,11 @@ class Asked(unittest.TestCase):
         os.chmod(file.name, stat.S_IRWXU)
         return file.name
 
-    def made(self, line, said):
+    def made(self, line, said, front=""):
         before = os.environ.get("PULSE_RW_PROGRAM")
         os.environ["PULSE_RW_PROGRAM"] = self.program(said)
         try:
-            return make(AUTH_TEXT + line + "\nend\n")
+            return make(front + AUTH_TEXT + line + "\nend\n")
         finally:
             os.environ.pop("PULSE_RW_PROGRAM") if before is None else os.environ.update(PULSE_RW_PROGRAM=before)
 
@@ -86,6 +90,7 @@ class Asked(unittest.TestCase):
         line = "pulse_rw: refused at 590: too many, 4294967295 of 7"
         self.assertEqual(self.made("turn out 3 take all", line), make(AUTH_TEXT + "turn out 3 take 7\nend\n"))
         self.assertEqual(self.made("collect out take all", line), make(AUTH_TEXT + "collect out take 7\nend\n"))
+        self.assertEqual(self.made("turn out 3 take all", line, "form 2\n"), make("form 2\n" + AUTH_TEXT + "turn out 3 take 7\nend\n"))
 
     def test_other_answers(self):
         for said in ("pulse_rw: refused at 590: too many, 3 of 0", "pulse_rw: refused at 590: live 1", "nothing"):

@@ -12,9 +12,16 @@ TOP = os.path.dirname(os.path.dirname(os.path.abspath(__file__)))
 PROGRAM = f"""#!{sys.executable}
 import sys
 sys.dont_write_bytecode = True
-sys.path.insert(0, {os.path.join(TOP, "conformance")!r})
+sys.path[:0] = [{os.path.join(TOP, "conformance")!r}, {os.path.join(TOP, "tools")!r}]
 import reckon
-said = bytearray(reckon.reckoned(sys.stdin.buffer.read()))
+import recording
+session = sys.stdin.buffer.read()
+if sys.argv[1] == "convert":
+    read = recording.read_session(session)
+    said = bytearray(recording.spelled_header(read.cookie, read.sinks, recording.TWO))
+    said += b"".join(recording.spelled_event(event, recording.TWO) for event in read.events)
+else:
+    said = bytearray(reckon.reckoned(session))
 FLIP
 sys.stdout.buffer.write(said)
 """
@@ -35,13 +42,20 @@ class Running(unittest.TestCase):
         self.assertEqual(self.run_rows("", "--cut", "all", *rows), (0, "12 passed, 0 failed\n", ""))
         self.assertEqual(self.run_rows("", "--cut", "5", *rows), (0, "3 passed, 0 failed\n", ""))
 
+    def test_rows_are_converted(self):
+        """What a program makes of a session in the second form is compared byte for byte, and replayed."""
+        rows = ("turns/seeks", "forms/one_stop", "forms/moved_away", "convert/of_the_second_form")
+        self.assertEqual(self.run_rows("", "--convert", *rows), (0, "10 passed, 0 failed\n", ""))
+        status, said, _ = self.run_rows("said[-19] ^= sys.argv[1] == 'convert'", "--convert", "turns/silence")
+        self.assertEqual((status, said.splitlines()[0], said.splitlines()[-1]), (1, "turns/silence, converted", "2 passed, 1 failed"))
+
     def test_what_was_worked_by_hand_is_reckoned(self):
-        """The rows of the life of streams, of formats, of moves, of plans, of sinks, of volumes, of infos and of versions, and recorded clients."""
+        """The rows of the life of streams, of forms, of formats, of moves, of plans, of sinks, of volumes, of infos and of versions, and recorded clients."""
         rows = [f"infos/{name}" for name in ("changed", "clients", "inputs", "pactl_list", "properties", "sink_infos", "streams", "volumes")] + ["create/repaired"]
         # all but three rows of versions: the reckoner can't tell which item is another one, and has no events
         named = sorted(os.listdir(os.path.join(TOP, "conformance", "versions")))
         rows += [f"versions/{name.rsplit('.', 1)[0]}" for name in named if name.endswith((".output", ".answer")) and not name.startswith(("create_f", "attributes_f", "events"))]
-        for topic in ("formats", "moves", "plans", "sinks", "streams", "subscriptions", "volumes"):
+        for topic in ("formats", "forms", "moves", "plans", "sinks", "streams", "subscriptions", "volumes"):
             names = sorted(os.listdir(os.path.join(TOP, "conformance", topic)))
             rows += [f"{topic}/{name[: -len('.output')]}" for name in names if name.endswith(".output")]
         rows += [f"recorded/{name}" for name in ("paplay", "aplay_alsa_plugin_18", "pacat_s24le_18", "pactl_list_18", "sox_play_18")]

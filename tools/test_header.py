@@ -38,7 +38,7 @@ class Header(unittest.TestCase):
             file.write(said.stdout)
         self.assertEqual(said.returncode, 0, said.stderr)
         place = Place(said.stdout)
-        cookie, sinks = read_header(place)
+        _, cookie, sinks = read_header(place)
         self.assertEqual((cookie, place.at), (bytes(range(256)), len(said.stdout)))
         return sinks
 

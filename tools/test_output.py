@@ -57,6 +57,15 @@ class Outputs(unittest.TestCase):
             "end\n",
         )
 
+    def test_a_device_that_stopped(self):
+        data = bytes.fromhex("0400" "0000000100000000" "00")
+        self.assertEqual(output.show(data, self.SESSION), ("stopped out filled 4294967296\nend\n", None))
+        self.assertEqual(output.show(data), ("stopped @0 filled 4294967296\nend\n", None))
+        self.assertEqual(output.show(data[:9], self.SESSION), ("", "the output ends within the record that begins at 0"))
+        self.assertEqual(output.show(b"\4\1" + bytes(9), self.SESSION), ("", "the session has no sink 1, at 0"))
+        made, fault = output.wav(data, self.SESSION, "out")
+        self.assertEqual((made[40:], fault), (bytes(4), None))
+
     def test_an_upper_byte_is_told(self):
         """24 bits in 32 are told as bytes where the upper byte is another than 0, which no sample says."""
         session = read_session(make("sink out s24-32be 1 48000 map 0 guard 0 depth 9\nend\n"))

@@ -15,6 +15,7 @@ from maker import make
 from recording import read_session
 from test_commands import run
 from test_output import sent
+from words import Wrong
 
 TOP = os.path.dirname(os.path.dirname(os.path.abspath(__file__)))
 RECKON = runpy.run_path(os.path.join(TOP, "conformance", "reckon.py"))
@@ -124,6 +125,30 @@ class Lanes(unittest.TestCase):
             self.assertEqual(list(picture.tops(wire.FORMATS.index(word), bytes.fromhex(data))), said)
 
 
+class Stops(unittest.TestCase):
+    TEXT = "form 2\n" + SINK + AUTH + CREATE + "data 1 stream 0 1000x60\nturn out 0 take 3\nturn out 20 take 0\nstop out\nturn out 60 take 0\nturn out 10 take 0\nend\n"
+
+    def test_a_device_that_stops(self):
+        """20 frames were played and 10 settled: the run is 30 frames long, and the device stopped after 20."""
+        root = drawn(self.TEXT)
+        (sink,), (stream,) = lanes(root, "sink"), lanes(root, "stream")
+        (mark,) = [it for it in sink.iter(SVG + "line") if it.get("class") == "mark stopped"]
+        self.assertEqual((mark.get("x1"), mark[0].text), ("866.67", "its device stopped, 30 frames filled, at 416.667 µs"))
+        self.assertIn("20 frames played", texts(sink))
+        self.assertEqual(blocks(stream, "played"), [(200, 1200)])
+
+    def test_another_record(self):
+        session = make(self.TEXT)
+        said = RECKON["reckoned"](session)
+        for record in ("0400000000000000001f", "030000000000"):
+            other = said.replace(bytes.fromhex("0400000000000000001e"), bytes.fromhex(record))
+            self.assertNotEqual(said, other)
+            self.assertRaises(Wrong, picture.picture, other, read_session(session))
+        cut, fault = picture.picture(said[: said.index(bytes.fromhex("0400000000000000001e"))], read_session(session))
+        self.assertIn("it has no end byte", fault)
+        self.assertNotIn("its device stopped,", cut)
+
+
 class Lengths(unittest.TestCase):
     """The width is the same for 100 frames and for a minute, and a minute's picture isn't long."""
 
@@ -156,9 +181,9 @@ class Lengths(unittest.TestCase):
 class Accounts(unittest.TestCase):
     def test_as_the_reckoner_has_it(self):
         """After each turn sinks and streams stand where the reckoner has them, though turns leave messages waiting."""
-        for row in ("reckoned/dice_7", "reckoned/life_7", "sinks/sinks_7", "moves/moves_11", "moves/many_waiting", "versions/followed"):
-            session = make(text_of("conformance", *f"{row}.session".split("/")))
-            _, sinks, events = read_session(session)
+        for row in ("reckoned/dice_7", "reckoned/life_7", "sinks/sinks_7", "moves/moves_11", "moves/many_waiting", "versions/followed", "forms/stops_7"):
+            session = make(RECKON["thrown_by"](["--stops", "7", "300"]) if row == "forms/stops_7" else text_of("conformance", *f"{row}.session".split("/")))
+            _, sinks, events, _ = read_session(session)
             server, wanted, came = RECKON["Server"](bytes(256), sinks), [], []
             for event in events[:-1]:
                 server.event(event)

@@ -17,11 +17,12 @@ import packets
 import session_of_streams
 import wire
 from maker import make
-from recording import SinkSpec, read_session, spelled_bytes, spelled_header, spelled_turn
+from recording import FORMS, ONE, TWO, SinkSpec, read_session, spelled_bytes, spelled_event, spelled_header, spelled_turn
 from teller import show
 from words import Wrong
 
 HEADER = bytes.fromhex("50525331") + bytes(256) + bytes.fromhex("01036f757403010000bb80000000000a00000064")
+SECOND = b"PRS2" + HEADER[4:]  # the same in the second form
 SINK = "sink out s16le 1 48000 map 0 guard 10 depth 100\n"
 CONNECT = bytes.fromhex("0100000001")
 AUTH_FRAME = (
@@ -171,6 +172,31 @@ class Bytes(unittest.TestCase):
         self.assertEqual(said.hex(), "05000000006400000003" "060000000002" "05050000000000000000"
                          "020000000700000000" "0400000007" "0300000007")
 
+    def test_the_second_form(self):
+        """Its counts and lengths have eight bytes, and there is Stop."""
+        text = "turn out 100 take 3\ncollect out take 2\nturn out 4294967296 take 18446744073709551615\nstop out\nstop @5\nbytes 7 hex 01\ncut 7\n"
+        session = make("form 2\n" + SINK + text + "end\n")
+        self.assertEqual(session, b"PRS2" + HEADER[4:] + bytes.fromhex(
+            "0500" "0000000000000064" "0000000000000003" "0600" "0000000000000002" "0500" "0000000100000000" "ffffffffffffffff"
+            "0700" "0705" "0200000007" "0000000000000001" "01" "0400000007" "00"))
+        self.assertEqual(show(session), "form 2\n" + SINK + text + "end\n")
+        self.assertEqual(make("form 1\n" + AUTH_TEXT + "end\n"), make(AUTH_TEXT + "end\n"))
+        for form in FORMS:
+            again = read_session(make(f"form {form.number}\n" + AUTH_TEXT + "turn out 0 take 0\ncollect out take 1\nend\n"))
+            self.assertEqual(again.form, form)
+            self.assertEqual(show(spelled_header(again.cookie, again.sinks, TWO) + b"".join(spelled_event(it, TWO) for it in again.events)),
+                             "form 2\n" + AUTH_TEXT + "turn out 0 take 0\ncollect out take 1\nend\n")
+
+    def test_the_longest_bytes(self):
+        """One event carries up to 65,536 bytes in the first form, up to 1,048,576 in the second."""
+        for form, most in ((ONE, 65_536), (TWO, 1_048_576)):
+            front = f"form {form.number}\n" + SINK + "connect 1\n"
+            for size, lengths in ((most, [most]), (most + 1, [most, 1])):
+                session = make(front + f"bytes 1 hex 00x{size}\nend\n")
+                self.assertEqual([len(event[2]) for event in read_session(session).events if event[0] == 2], lengths)
+                self.assertEqual(make(show(session)), session)
+            self.assertEqual(make(front + f"split {most}\nbytes 1 hex 00x{most + 1}\nend\n"), session)
+
     def test_name(self):
         named = frame_of("name 1 tag 1 application.name=paplay")[20:]
         self.assertEqual(named.hex(), "4c000000094c0000000150" + "74" + b"application.name".hex() + "00"
@@ -294,17 +320,20 @@ class Shown(unittest.TestCase):
             depth = rng.randint(1, 65_536)
             positions = [rng.randint(0, 50) for _ in range(spec[1])]
             sinks.append(SinkSpec(name, spec, positions, rng.randint(0, depth), depth))
-        session = spelled_header(rng.choice((bytes(256), rng.randbytes(256))), sinks)
-        return session + b"".join(self.random_events(rng) for _ in range(rng.randint(0, 30))) + b"\0"
+        form = rng.choice(FORMS)
+        session = spelled_header(rng.choice((bytes(256), rng.randbytes(256))), sinks, form)
+        return session + b"".join(self.random_events(rng, form) for _ in range(rng.randint(0, 30))) + b"\0"
 
-    def random_events(self, rng):
+    def random_events(self, rng, form):
         conn, kind = rng.choice((1, 2, 0xFFFFFFFF)), rng.randint(0, 9)
         if kind < 3:
             return bytes([(1, 3, 4)[kind]]) + conn.to_bytes(4, "big")
         if kind == 3:
-            return spelled_turn(rng.randint(0, 255), rng.choice((None, 7)), rng.randint(0, 9))
+            if form is TWO and rng.randrange(2):
+                return spelled_event((7, rng.randint(0, 255)), form)
+            return spelled_turn(rng.randint(0, 255), rng.choice((None, 7, form.greatest())), rng.choice((rng.randint(0, 9), form.greatest())), form)
         if kind == 4:
-            return spelled_bytes(conn, rng.randbytes(rng.randint(0, 40)))
+            return spelled_bytes(conn, rng.randbytes(rng.randint(0, 40)), form)
         lines = CREATE_TEXT, "create 1 at 17 s16le 1 48000 map 0 muted", "auth 1 version 13", "auth 1 version 18", "name 1 a=b", "data 1 stream 0 hex 0102x9", "flush 1 stream 2"
         frame = frame_of(rng.choice(lines))
         if kind == 5:
@@ -312,7 +341,7 @@ class Shown(unittest.TestCase):
             frame = frame[:at] + rng.randbytes(1) + frame[at + 1 :]
         size = rng.choice((1, 3, 40, 1000))
         pieces = [frame[at : at + size] for at in range(0, len(frame), size)]
-        return b"".join(spelled_bytes(conn, piece) for piece in pieces)
+        return b"".join(spelled_bytes(conn, piece, form) for piece in pieces)
 
 
 class Refused(unittest.TestCase):
@@ -341,6 +370,16 @@ class Refused(unittest.TestCase):
             (SINK + "turn out -1 take 0", "2: a count of frames is from 0 to 4294967295, and -1 isn't"),
             (SINK + "bytes 1 hex 001", "2: 001 is too much here"),
             (SINK + "split 0", "2: a piece's bytes is from 1 to 65536, and 0 isn't"),
+            ("form 2\n" + SINK + "split 1048577", "3: a piece's bytes is from 1 to 1048576, and 1048577 isn't"),
+            ("form 3\n" + SINK, "1: a form is from 1 to 2, and 3 isn't"),
+            (SINK + "form 2\n", "2: form belongs before all other lines"),
+            ("form 2\nform 2\n", "2: form belongs before all other lines"),
+            ("cookie 00x256\nform 2\n", "2: form belongs before all other lines"),
+            (SINK + "stop out", "2: a session of form 1 has no stop: its first line says `form 2`"),
+            ("form 2\n" + SINK + "stop in", "3: no sink is named in"),
+            ("form 2\n" + SINK + "stop out 0", "3: 0 is too much here"),
+            (SINK + "turn out 0 take 4294967296", "2: what is taken is from 0 to 4294967295, and 4294967296 isn't"),
+            ("form 2\n" + SINK + "turn out 0 take 18446744073709551616", "3: what is taken is from 0 to 18446744073709551615"),
             (SINK + "play 1", "2: play begins no line"),
             (SINK + "delete 1", "2: stream is missing"),
             (SINK + "delete 1 stream 0 stream 1", "2: stream is said twice"),
@@ -380,6 +419,11 @@ class Refused(unittest.TestCase):
             (HEADER + bytes.fromhex("020000000100010001"), "refused at 280: too long 65537"),
             (HEADER[:260] + b"\0", "refused at 260: header"), (HEADER[:260] + b"\1\0", "refused at 261: header"),
             (HEADER[:-1] + b"\5", "refused at 276: header"),
+            (b"PRS2", "refused at 4: truncated"), (b"PRS3", "refused at 0: magic"), (b"PRT2", "refused at 0: magic"),
+            (SECOND, "refused at 280: truncated"), (SECOND + b"\7", "refused at 281: truncated"), (SECOND + b"\x08", "refused at 280: kind 8"),
+            (SECOND + bytes.fromhex("02000000010000000000100001"), "refused at 280: too long 1048577"),
+            (SECOND + bytes.fromhex("02000000010000000000010001"), "refused at 293: truncated"),
+            (SECOND + bytes.fromhex("050000000000000000"), "refused at 289: truncated"), (SECOND + b"\0\0", "refused at 281: trailing"),
         ):
             with self.assertRaises(Wrong) as caught:
                 show(session)
@@ -412,7 +456,7 @@ class Benchmark(unittest.TestCase):
     def test_session_of_streams(self):
         out = io.BytesIO()
         session_of_streams.write(out, 1, 2)
-        cookie, sinks, said = read_session(out.getvalue())
+        said = read_session(out.getvalue()).events
         turns = [event for event in said if event[0] == 5]
         self.assertEqual((len(turns), sum(turn[2] for turn in turns)), (101, 48_000))
         data = [event for event in said if event[0] == 2 and event[2][4:8] == bytes(4)]
