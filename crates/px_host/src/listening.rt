@@ -1,4 +1,6 @@
 // The socket that a host listens at.
+ghost use Rattle.std.specs.Prelude.{◌≡◌, IfOk, string_bytes};
+
 use crate::Connected;
 use crate::faults::or_print;
 use std::alloc::Global;
@@ -69,14 +71,18 @@ fn connected(listener: &UnixListener) -> io::Result<Connected> {
 impl Listening {
     /// Listens at a path, which is open to its owner alone from then on. A socket there at which nobody listens is replaced; one at which a server
     /// listens is a fault, and so is any other file.
-    pub fn at<R: Files + Net + Eprint>(rt: &R, alloc: Global, path: &str) -> io::Result<Listening> {
+    pub fn at<R: Files + Net + Eprint>(rt: &R, alloc: Global, path: &str) -> io::Result<Listening>
+        ensures { IfOk result (λ listening. string_bytes listening.path ≡ path.now) }
+    {
         let listener = or_print(rt, "cannot listen at", path, listen(rt, path))?;
         let path = String::from_str(alloc, path)?;
         Ok(Listening { listener, path })
     }
 
     /// The path of its socket.
-    pub fn path(&self) -> &str {
+    pub fn path(&self) -> &str
+        ensures { result.now ≡ string_bytes self.now.path }
+    {
         self.path.as_str()
     }
 

@@ -1,5 +1,5 @@
 // The file that a sink's frames go to.
-ghost use Rattle.std.specs.Prelude.{None};
+ghost use Rattle.std.specs.Prelude.{◌≡◌};
 
 use crate::retried;
 use px_ends::{Sink, Took};
@@ -19,7 +19,9 @@ pub struct SoundFile<S: Drop> {
 
 impl<S: Drop> SoundFile<S> {
     /// The sink's file, none of whose writes has failed. Takes no memory.
-    pub fn new(rt: S, file: File, name: String, path: String) -> SoundFile<S> {
+    pub fn new(rt: S, file: File, name: String, path: String) -> SoundFile<S>
+        ensures { (result.name ≡ name) × (result.path ≡ path) × (result.faults ≡ 0) }
+    {
         SoundFile {
             rt,
             file,
@@ -31,6 +33,8 @@ impl<S: Drop> SoundFile<S> {
 }
 
 impl<S: Eprint + Drop> Sink for SoundFile<S> {
+    ghost use Rattle.std.specs.Prelude.{None};
+
     ghost held = { λ _. None };
 
     ghost faults = { λ f. f.faults };

@@ -1,8 +1,9 @@
 // The host over the system's files and sockets.
-ghost use Rattle.std.specs.Prelude.{◌≡◌, IfOk};
+ghost use Rattle.std.specs.Prelude.{◌≡◌, IfOk, string_bytes};
 ghost use Rattle.px_types.specs.Faults.{Rose};
 ghost use Rattle.px_ends.specs.Host.{IsNewRecorder};
 ghost use Rattle.px_host.specs.History.{visible_in, fulls_of};
+ghost use Rattle.px_host.specs.SoundFile.{file_path};
 
 use crate::faults::or_print;
 use crate::listening::Listening;
@@ -12,7 +13,7 @@ use px_ends::{Accepted, DeviceShape, HeaderRead, Host, HostFault, ServeOptions};
 use px_paced::PacedSink;
 use px_types::limits::{MAX_HISTORY_BYTES, MAX_HISTORY_ENTRIES};
 use px_types::{Mem, SinkId, Text};
-use std::alloc::Global;
+use std::alloc::{AllocError, Global};
 use std::fs::File;
 use std::io::{Eprint, ErrorKind};
 use std::rt::{Clock, Files, Net};
@@ -40,7 +41,9 @@ fn invalid(why: &str) -> io::Error {
 }
 
 // These bytes as text.
-fn text(bytes: &[u8]) -> io::Result<&str> {
+fn text(bytes: &[u8]) -> io::Result<&str>
+    ensures { IfOk result (λ text. text.now ≡ bytes.now) }
+{
     match str::from_utf8(bytes) {
         Ok(text) => Ok(text),
         Err(_) => Err(invalid("its name isn't text")),
@@ -96,16 +99,26 @@ fn create<R: Files<File = File>>(rt: &R, name: &str, path: &str) -> io::Result<F
     File::create(rt, path)
 }
 
+// The path of the file of the sink `name` in a folder.
+fn file_path(alloc: Global, folder: &str, name: &str) -> Result<String, AllocError>
+    ensures { IfOk result (λ path. string_bytes path ≡ file_path folder.now name.now) }
+{
+    format!(in alloc; "{folder}/{name}.raw")
+}
+
 // The file in the folder `out` that the frames of the sink `name` go to.
 fn sound_file<R: Files<File = File> + Eprint + Copy + Drop>(
     rt: &R,
     alloc: Global,
     out: &Text,
     name: &[u8],
-) -> io::Result<SoundFile<R>> {
+) -> io::Result<SoundFile<R>>
+    ensures name { IfOk result (λ file. string_bytes file.name ≡ name.now) }
+    ensures path { IfOk result (λ file. string_bytes file.path ≡ file_path out.now name.now) }
+{
     let folder = or_print(rt, "cannot make", "a sink's file", text(out.as_slice()))?;
     let name = or_print(rt, "cannot make", "a sink's file", text(name))?;
-    let path = format!(in alloc; "{folder}/{name}.raw")?;
+    let path = file_path(alloc, folder, name)?;
     let file = or_print(
         rt,
         "cannot make",
