@@ -3,6 +3,7 @@ ghost use Rattle.std.specs.Prelude.{◌≡◌, ◌<◌, length, None};
 ghost use Rattle.px_ends.specs.Links.{SendTakes};
 
 use px_ends::{Link, Outlet, Recv, Sent};
+use std::io;
 use std::io::{ErrorKind, Read, Write};
 use std::net::Shutdown;
 use std::os::unix::net::UnixStream;
@@ -24,7 +25,7 @@ pub struct Outgoing {
     not_yets: u64,
 }
 
-// Whether a call would block.
+// Whether a call would block, or a signal interrupted it: it is made again later.
 fn is_waiting(kind: ErrorKind) -> bool {
     matches!(
         kind,
@@ -60,14 +61,16 @@ impl Connected {
 
     /// The sending half of the link. `None` where the system has no descriptor to spare. Takes no memory.
     pub fn outlet(&self) -> Option<Outgoing> {
-        match self.stream.try_clone() {
-            Ok(stream) => Some(Outgoing {
-                stream,
-                faults: 0,
-                not_yets: 0,
-            }),
-            Err(_) => None,
-        }
+        self.outgoing().ok()
+    }
+
+    // The sending half of the link, or why there is none.
+    pub(crate) fn outgoing(&self) -> io::Result<Outgoing> {
+        Ok(Outgoing {
+            stream: self.stream.try_clone()?,
+            faults: 0,
+            not_yets: 0,
+        })
     }
 }
 

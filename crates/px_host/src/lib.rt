@@ -1,15 +1,21 @@
 //! The real outside: adapters of a few lines over std's readers, writers, streams and clock. Each counts its faults, and its content isn't visible to
-//! contracts. It exports `Reading`, `Writing`, `Connected` with `Outgoing`, `SystemClock`, `History` and `SystemHost`.
+//! contracts. `SystemHost` and the `SoundFile` of a sink print each fault of their own on standard error, in a line of its own. It exports `Reading`,
+//! `Writing`, `Connected` with `Outgoing`, `SystemClock`, `History`, `SoundFile` and `SystemHost`.
 #![tactic(auto)]
 
 mod connected;
+mod faults;
 mod history;
+mod listening;
+mod retried;
+mod sound_file;
 mod standard;
 mod system_clock;
 mod system_host;
 
 pub use connected::{Connected, Outgoing};
 pub use history::History;
+pub use sound_file::SoundFile;
 pub use standard::{Reading, Writing};
 pub use system_clock::SystemClock;
 pub use system_host::SystemHost;

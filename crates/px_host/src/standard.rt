@@ -1,10 +1,11 @@
 // Bytes in and out over a reader and a writer of std.
 ghost use Rattle.std.specs.Prelude.{None};
 
+use crate::retried;
 use px_ends::{Got, Sink, Source, Took};
 use std::io::{Read, Write};
 
-/// A source of bytes over a reader.
+/// A source of bytes over a reader. A read that a signal interrupts is made again.
 #[derive(Drop)]
 pub struct Reading<R: Read> {
     inner: R,
@@ -23,7 +24,7 @@ impl<R: Read> Source for Reading<R> {
     ghost faults = { λ s. s.faults };
 
     fn read(&mut self, buffer: &mut [u8]) -> Got {
-        match self.inner.read(buffer) {
+        match retried::read(&mut self.inner, buffer) {
             Ok(0) => Got::End,
             Ok(count) => Got::Bytes(count),
             Err(_) => {
@@ -34,7 +35,7 @@ impl<R: Read> Source for Reading<R> {
     }
 }
 
-/// A sink of bytes over a writer.
+/// A sink of bytes over a writer. A write that a signal interrupts is made again.
 #[derive(Drop)]
 pub struct Writing<W: Write> {
     inner: W,
@@ -52,11 +53,10 @@ impl<W: Write> Sink for Writing<W> {
 
     ghost faults = { λ s. s.faults };
 
-    // A writer that takes none of some bytes has failed.
     fn write(&mut self, bytes: &[u8]) -> Took {
-        match self.inner.write(bytes) {
-            Ok(count) if count > 0 => Took::Bytes(count),
-            Ok(_) | Err(_) => {
+        match retried::write(&mut self.inner, bytes) {
+            Ok(count) => Took::Bytes(count),
+            Err(_) => {
                 self.faults = self.faults.saturating_add(1);
                 Took::Failed
             }

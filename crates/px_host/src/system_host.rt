@@ -1,36 +1,30 @@
 // The host over the system's files and sockets.
-ghost use Rattle.std.specs.Prelude.{◌≡◌, IfOk};
+ghost use Rattle.std.specs.Prelude.{◌≡◌, IfOk, string_bytes};
 ghost use Rattle.px_types.specs.Faults.{Rose};
 ghost use Rattle.px_ends.specs.Host.{IsNewRecorder};
 ghost use Rattle.px_host.specs.History.{visible_in, fulls_of};
+ghost use Rattle.px_host.specs.SoundFile.{file_path};
 
-use crate::{Connected, History, Outgoing, SystemClock, Writing};
+use crate::faults::or_print;
+use crate::listening::Listening;
+use crate::{Connected, History, Outgoing, SoundFile, SystemClock};
 use px_annals::{CoreEntry, Entry, LaneEntry, MemRecorder};
 use px_ends::{Accepted, DeviceShape, HeaderRead, Host, HostFault, ServeOptions};
 use px_paced::PacedSink;
 use px_types::limits::{MAX_HISTORY_BYTES, MAX_HISTORY_ENTRIES};
 use px_types::{Mem, SinkId, Text};
-use std::alloc::Global;
+use std::alloc::{AllocError, Global};
 use std::fs::File;
-use std::io::ErrorKind;
-use std::os::unix::fs::{FileTypeExt, PermissionsExt};
-use std::os::unix::net::{UnixListener, UnixStream};
+use std::io::{Eprint, ErrorKind};
 use std::rt::{Clock, Files, Net};
-use std::time::Duration;
 use std::{fs, io};
 
-// How long a receive of a link waits, in milliseconds. A send that found the client not ready is tried again that often; all else is sent by the
-// worker that has it for the client, so nothing waits for a receive to end.
-const PATIENCE: u64 = 100;
-
-// How long a send waits, in milliseconds: the sending worker may hold up others.
-const HASTE: u64 = 1;
-
-/// A host that listens at a Unix socket, makes a device for each sink over a file, and stores histories in memory or not at all.
+/// A host that listens at a Unix socket, makes a device for each sink over a file, and stores histories in memory or not at all. It prints each fault
+/// of its own on standard error when it meets it, in a line with the path and the system's cause. A link's faults are its client's, and aren't printed.
 #[derive(Drop)]
 pub struct SystemHost<S: Drop> {
     rt: S,
-    listener: Option<UnixListener>,
+    listening: Option<Listening>,
     out: Text,
     accept: u16,
     memory: bool,
@@ -41,68 +35,98 @@ pub struct SystemHost<S: Drop> {
     fulls: u64,
 }
 
-// A text as a path; `None` where it isn't one.
-fn path(text: &Text) -> Option<&str> {
-    str::from_utf8(text.as_slice()).ok()
+// A fault of what the host was given.
+fn invalid(why: &str) -> io::Error {
+    io::Error::new(ErrorKind::InvalidInput, why)
 }
 
-// Whether a connection to the socket at `path` is refused: nobody listens there. Any other failure, as for want of a right or of
-// descriptors, says nothing of who listens.
-fn is_refused<R: Net>(rt: &R, path: &str) -> bool {
-    match UnixStream::connect(rt, path) {
-        Ok(_) => false,
-        Err(error) => error.kind() == ErrorKind::ConnectionRefused,
+// These bytes as text.
+fn text(bytes: &[u8]) -> io::Result<&str>
+    ensures { IfOk result (λ text. text.now ≡ bytes.now) }
+{
+    match str::from_utf8(bytes) {
+        Ok(text) => Ok(text),
+        Err(_) => Err(invalid("its name isn't text")),
     }
-}
-
-// Whether a socket is at `path` at which nobody listens.
-fn is_stale<R: Files + Net>(rt: &R, path: &str) -> bool {
-    match fs::symlink_metadata(rt, path) {
-        Ok(found) => found.file_type().is_socket() && is_refused(rt, path),
-        Err(_) => false,
-    }
-}
-
-// Listens at a path, which is open to its owner alone from then on. A stale socket there is replaced; any other file is a fault.
-fn listen<R: Files + Net>(rt: &R, path: &str) -> io::Result<UnixListener> {
-    if is_stale(rt, path) {
-        fs::remove_file(rt, path)?;
-    }
-    let listener = UnixListener::bind(rt, path)?;
-    fs::set_permissions(rt, path, fs::Permissions::from_mode(0o600))?;
-    Ok(listener)
 }
 
 // The header's bytes, and the listener.
-fn begin<R: Files + Net + AllocGlobal>(
+fn begin<R: Files + Net + Eprint + AllocGlobal>(
     rt: &R,
+    alloc: Global,
     options: &ServeOptions,
-) -> io::Result<(Text, UnixListener)> {
-    let (Some(header), Some(socket)) = (path(&options.header), path(&options.socket)) else {
-        return Err(io::Error::from(ErrorKind::InvalidInput));
-    };
-    let bytes = fs::read(rt, header)?;
-    Ok((Text::from_vec(bytes), listen(rt, socket)?))
+) -> io::Result<(Text, Listening)> {
+    let header = or_print(
+        rt,
+        "cannot read",
+        "the header",
+        text(options.header.as_slice()),
+    )?;
+    let bytes = or_print(rt, "cannot read", header, fs::read(rt, header))?;
+    let socket = or_print(
+        rt,
+        "cannot listen at",
+        "the socket",
+        text(options.socket.as_slice()),
+    )?;
+    Ok((Text::from_vec(bytes), Listening::at(rt, alloc, socket)?))
 }
 
-// Accepts a client; no call of its link waits long.
-fn connected(listener: &UnixListener) -> io::Result<Connected> {
-    let (stream, _) = listener.accept()?;
-    stream.set_read_timeout(Some(Duration::from_millis(PATIENCE)))?;
-    stream.set_write_timeout(Some(Duration::from_millis(HASTE)))?;
-    Ok(Connected::new(stream))
-}
-
-// Creates the file that a sink's frames go to; a pipe of that name is written to. A name with a slash in it is a fault.
-fn open<R: Files<File = File>>(rt: &R, alloc: Global, out: &Text, name: &[u8]) -> io::Result<File> {
-    let (Some(folder), Ok(name)) = (path(out), str::from_utf8(name)) else {
-        return Err(io::Error::from(ErrorKind::InvalidInput));
-    };
-    if name.contains('/') {
-        return Err(io::Error::from(ErrorKind::InvalidInput));
+// The path of the socket.
+fn path(listening: &Option<Listening>) -> &str {
+    match listening {
+        Some(listening) => listening.path(),
+        None => "no socket",
     }
-    let path = format!(in alloc; "{folder}/{name}.raw")?;
-    File::create(rt, path.as_str())
+}
+
+// Accepts a client. A host that hasn't been started fails.
+fn next_client<R: Eprint>(rt: &R, listening: &Option<Listening>) -> io::Result<Connected> {
+    match listening {
+        Some(listening) => listening.accept(rt),
+        None => {
+            let fault = invalid("the host hasn't been started");
+            or_print(rt, "cannot accept a client at", path(listening), Err(fault))
+        }
+    }
+}
+
+// Creates the file at `path` that the frames of the sink `name` go to; a pipe there is written to. A name with a slash in it is a fault.
+fn create<R: Files<File = File>>(rt: &R, name: &str, path: &str) -> io::Result<File> {
+    if name.contains('/') {
+        return Err(invalid("a sink's name has no slash"));
+    }
+    File::create(rt, path)
+}
+
+// The path of the file of the sink `name` in a folder.
+fn file_path(alloc: Global, folder: &str, name: &str) -> Result<String, AllocError>
+    ensures { IfOk result (λ path. string_bytes path ≡ file_path folder.now name.now) }
+{
+    format!(in alloc; "{folder}/{name}.raw")
+}
+
+// The file in the folder `out` that the frames of the sink `name` go to.
+fn sound_file<R: Files<File = File> + Eprint + Copy + Drop>(
+    rt: &R,
+    alloc: Global,
+    out: &Text,
+    name: &[u8],
+) -> io::Result<SoundFile<R>>
+    ensures name { IfOk result (λ file. string_bytes file.name ≡ name.now) }
+    ensures path { IfOk result (λ file. string_bytes file.path ≡ file_path out.now name.now) }
+{
+    let folder = or_print(rt, "cannot make", "a sink's file", text(out.as_slice()))?;
+    let name = or_print(rt, "cannot make", "a sink's file", text(name))?;
+    let path = file_path(alloc, folder, name)?;
+    let file = or_print(
+        rt,
+        "cannot make",
+        path.as_str(),
+        create(rt, name, path.as_str()),
+    )?;
+    let name = String::from_str(alloc, name)?;
+    Ok(SoundFile::new(*rt, file, name, path))
 }
 
 // A recorder with the limits of a history in memory, or none.
@@ -123,7 +147,7 @@ impl<S: Drop> SystemHost<S> {
     {
         SystemHost {
             rt,
-            listener: None,
+            listening: None,
             out: Text::from_vec(Vec::new(alloc)),
             accept: 0,
             memory: false,
@@ -144,7 +168,7 @@ impl<S: Drop> SystemHost<S> {
     }
 }
 
-impl<S: Files<File = File> + Net + Clock + AllocGlobal + Copy + Drop + Send> Host
+impl<S: Files<File = File> + Net + Clock + Eprint + AllocGlobal + Copy + Drop + Send> Host
     for SystemHost<S> {
     ghost use Rattle.std.specs.Prelude.{None};
 
@@ -152,7 +176,7 @@ impl<S: Files<File = File> + Net + Clock + AllocGlobal + Copy + Drop + Send> Hos
 
     type O = Outgoing;
 
-    type D = PacedSink<Writing<File>, SystemClock<S>>;
+    type D = PacedSink<SoundFile<S>, SystemClock<S>>;
 
     type R = History<LaneEntry>;
 
@@ -176,9 +200,9 @@ impl<S: Files<File = File> + Net + Clock + AllocGlobal + Copy + Drop + Send> Hos
         let Ok(out) = Text::copied(alloc, options.out.as_slice()) else {
             return HeaderRead::NoMemory;
         };
-        match begin(&self.rt, options) {
-            Ok((header, listener)) => {
-                self.listener = Some(listener);
+        match begin(&self.rt, alloc, options) {
+            Ok((header, listening)) => {
+                self.listening = Some(listening);
                 self.out = out;
                 self.accept = options.accept;
                 self.memory = options.memory;
@@ -199,11 +223,7 @@ impl<S: Files<File = File> + Net + Clock + AllocGlobal + Copy + Drop + Send> Hos
             self.overs = self.overs.saturating_add(1);
             return Accepted::Over;
         }
-        let Some(listener) = &self.listener else {
-            self.fail();
-            return Accepted::Failed;
-        };
-        match connected(listener) {
+        match next_client(&self.rt, &self.listening) {
             Ok(link) => {
                 self.links += 1;
                 Accepted::Link(link)
@@ -219,7 +239,11 @@ impl<S: Files<File = File> + Net + Clock + AllocGlobal + Copy + Drop + Send> Hos
     }
 
     fn outlet(&mut self, link: &mut Connected) -> Option<Outgoing> {
-        link.outlet()
+        let (what, path) = (
+            "cannot send from other threads to a client at",
+            path(&self.listening),
+        );
+        or_print(&self.rt, what, path, link.outgoing()).ok()
     }
 
     fn device(
@@ -227,11 +251,11 @@ impl<S: Files<File = File> + Net + Clock + AllocGlobal + Copy + Drop + Send> Hos
         alloc: Global,
         name: &[u8],
         shape: &DeviceShape,
-    ) -> Result<PacedSink<Writing<File>, SystemClock<S>>, HostFault> {
-        match open(&self.rt, alloc, &self.out, name) {
+    ) -> Result<PacedSink<SoundFile<S>, SystemClock<S>>, HostFault> {
+        match sound_file(&self.rt, alloc, &self.out, name) {
             Ok(file) => {
                 let clock = SystemClock::new(self.rt);
-                match PacedSink::new(alloc, shape, Writing::new(file), clock) {
+                match PacedSink::new(alloc, shape, file, clock) {
                     Ok(device) => Ok(device),
                     Err(_) => Err(HostFault::NoMemory),
                 }
@@ -267,7 +291,7 @@ impl<S: Files<File = File> + Net + Clock + AllocGlobal + Copy + Drop + Send> Hos
     fn retire(
         &mut self,
         _sink: SinkId,
-        device: PacedSink<Writing<File>, SystemClock<S>>,
+        device: PacedSink<SoundFile<S>, SystemClock<S>>,
         recorder: History<LaneEntry>,
     ) {
         if device.faults() > 0 {

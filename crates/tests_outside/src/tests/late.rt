@@ -5,7 +5,7 @@ use px_host::SystemHost;
 use px_types::{Mem, Status, Text};
 use std::alloc::Global;
 use std::fs::File;
-use std::io::{ErrorKind, Read, Write};
+use std::io::{Eprint, ErrorKind, Read, Write};
 use std::os::unix::net::UnixStream;
 use std::rt::{Clock, Files, Net};
 use std::sync::Wait;
@@ -249,6 +249,7 @@ where
         + Clock
         + Net
         + Files<File = File>
+        + Eprint
         + Copy
         + Drop
         + Send
@@ -272,6 +273,7 @@ where
         + Clock
         + Net
         + Files<File = File>
+        + Eprint
         + Copy
         + Drop
         + Send
