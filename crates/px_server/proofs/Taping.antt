@@ -1,8 +1,10 @@
 -- The turns that sinks keep for a tape, and how many there are.
-use Rattle.std.proofs.Common.{◌≡◌, ◌⊎◌, ℕ, ◌+◌, List, [], ◌∷◌, ◌++◌, ◌<◌, ◌≤◌, cond, nat_eq, ⊤, length, length-map, append-nil, drop, map, Option, None, Some, IfSome, IsSome, Bool, true, false, inl, inr, refl, sym, subst, ap, ◌∙◌, arith, rules}
+use Rattle.std.proofs.Common.{◌≡◌, ◌⊎◌, ℕ, ◌+◌, List, [], ◌∷◌, ◌++◌, ◌<◌, ◌≤◌, cond, nat_eq, length, append-nil, drop, map, Option, None, Some, IfSome, IsSome, Bool, true, false, inl, inr, refl, sym, subst, ap, ◌∙◌, arith, rules}
+use Rattle.std.specs.Bool.{⊤}
 use Rattle.std.specs.List.{AllByRecursion}
 use Rattle.std.specs.Option.{is_some}
 use Rattle.std.proofs.lemmas.Bool.{eq-eqb, ne_eqb}
+use Rattle.std.proofs.lemmas.List.{length-map}
 use Rattle.px_types.specs.declared.ids.SinkId.{SinkId}
 use Rattle.px_types.specs.declared.status.Status.{Status}
 use Rattle.px_types.specs.declared.status.Status.TheVariants as status
@@ -62,11 +64,18 @@ fine_over (stops.Unrecorded why) fault sink_fault fine = absurd (never fault fin
   never (Some (record_fault.Full entries bytes)) is = search rules
   never (Some record_fault.Failed) is = search rules
 
+-- one sink more in the number of the entries
+counted_first : (first : Option (List LaneEntry)) (others : Option ℕ) (turns : List Made) (count : ℕ) → IfSome first (λ entries. turns ≡ map made_by entries) → IfSome others (λ n. count ≡ n)
+    → IfSome (added first others) (λ n. length turns + count ≡ n)
+counted_first None others turns count here rest = tt
+counted_first (Some entries) None turns count here rest = tt
+counted_first (Some entries) (Some n) turns count here rest = let same = ap length here in omega (arith, same, length-map entries made_by, rest)
+
 module _ {D R : Type 0} (visible : R → Option (List LaneEntry)) where
   -- ---- each sink has its turns
 
   pub turns_none : (parts : List (LanePart D R)) (turns : List Turns) → parts ≡ [] → turns ≡ [] → AreTurnsOf visible parts turns
-  turns_none parts turns none empty = subst (λ (p : List (LanePart D R)). AreTurnsOf visible p turns) (sym none) (subst (λ (t : List Turns). AreTurnsOf {D} visible [] t) (sym empty) tt)
+  turns_none parts turns none empty = subst (λ (p : List (LanePart D R)). AreTurnsOf visible p turns) (sym none) (subst (λ (t : List Turns). AreTurnsOf {D = D} visible [] t) (sym empty) tt)
 
   more_turns : (parts : List (LanePart D R)) (turns : List Turns) (part : LanePart D R) (t : Turns) → AreTaped visible part.sink part.recorder (Some t) → AreTurnsOf visible parts turns
       → AreTurnsOf visible (parts ++ part ∷ []) (turns ++ t ∷ [])
@@ -87,12 +96,6 @@ module _ {D R : Type 0} (visible : R → Option (List LaneEntry)) where
       subst (λ (p : List (LanePart D R)). AreTurnsOf visible p after) (sym more) (subst (AreTurnsOf visible (parts ++ part ∷ [])) (sym held) (more_turns parts turns part t here all))
 
   -- ---- how many there are
-
-  counted_first : (first : Option (List LaneEntry)) (others : Option ℕ) (turns : List Made) (count : ℕ) → IfSome first (λ entries. turns ≡ map made_by entries) → IfSome others (λ n. count ≡ n)
-      → IfSome (added first others) (λ n. length turns + count ≡ n)
-  counted_first None others turns count here rest = tt
-  counted_first (Some entries) None turns count here rest = tt
-  counted_first (Some entries) (Some n) turns count here rest = let same = ap length here in omega (arith, same, length-map entries made_by, rest)
 
   pub turns_counted : (parts : List (LanePart D R)) (turns : List Turns) → AreTurnsOf visible parts turns → AreCounted visible parts (total turns)
   turns_counted [] [] all = refl
@@ -123,6 +126,7 @@ module _ {D R : Type 0} (visible : R → Option (List LaneEntry)) where
         ∙ ap (λ (b : Bool). cond b (events_in t) []) (eq-eqb t.sink part.sink.0 taped.0)
         ∙ ap (λ (s : ℕ). events_of s t.failed t.turns) taped.0
         ∙ ap (λ (b : Bool). events_of part.sink.0 b t.turns) taped.1
+
     on : (o : Option (List LaneEntry)) → IfSome o (λ entries. t.turns ≡ map made_by entries) → IfSome o (λ entries. at_sink part.sink.0 events ≡ events_of part.sink.0 false (map made_by entries))
     on None same = tt
     on (Some entries) same = here ∙ ap (events_of part.sink.0 false) same
@@ -135,7 +139,7 @@ module _ {D R : Type 0} (visible : R → Option (List LaneEntry)) where
       let is = all.0.0 ∙ numbered.0 in (
         is_on part t (events_at part.sink.0 turns) events all.0 (none_below (index + 1) part.sink.0 parts turns all.1 numbered.1 (omega (arith, numbered.0))) (there part.sink.0 (omega (arith, numbered.0))),
         are_on (index + 1) parts turns events all.1 numbered.1 (λ at above.
-          there at (omega (arith, above)) ∙ ap (λ (b : Bool). cond b (events_in t) [] ++ events_at at turns) (ne_eqb t.sink at (λ same. omega (arith, is, same, above)))),
+            there at (omega (arith, above)) ∙ ap (λ (b : Bool). cond b (events_in t) [] ++ events_at at turns) (ne_eqb t.sink at (λ same. omega (arith, is, same, above)))),
       )
 
   -- ---- what is handed back

@@ -1,5 +1,5 @@
 -- What is made for the sinks of a header.
-use Rattle.std.specs.Prelude.{◌≡◌, ℕ, ◌+◌, Bool, List, [], ◌∷◌, ◌++◌, ⊤}
+use Rattle.std.specs.Prelude.{◌≡◌, ℕ, ◌+◌, Bool, List, [], ◌∷◌, ◌++◌}
 use Rattle.px_types.specs.declared.ids.SinkId.{SinkId}
 use Rattle.px_header.specs.declared.header.SinkSpec.{SinkSpec}
 use Rattle.px_core_cell.specs.declared.ends.CoreEnd.{CoreEnd}

@@ -26,8 +26,8 @@ close_with-core-requires-clause-turns_room g c = c.requires.turns_room
 pub returns-clause-tape : goal.returns-clause-tape
 returns-clause-tape g c =
     let numbers =
-        numbered g.L.Seats.began (g.H.C.Recorder.visible c.close_with-core.result.recorder) g.H.D.Device.now g.H.R.Recorder.visible g.H.R.Recorder.faults g.H.R.Recorder.fulls
-        0 c.requires.sinks.0 c.args.idle.items c.close_with-core.new.lanes.items c.close_with-core.ensures.parts c.requires.sinks.1 in
+    numbered g.L.Seats.began (g.H.C.Recorder.visible c.close_with-core.result.recorder) g.H.D.Device.now g.H.R.Recorder.visible g.H.R.Recorder.faults g.H.R.Recorder.fulls
+    0 c.requires.sinks.0 c.args.idle.items c.close_with-core.new.lanes.items c.close_with-core.ensures.parts c.requires.sinks.1 in
     tape_is g.H.R.Recorder.visible c.args.taped c.args.idle.items c.close_with-core.new.turns.items c.close_with-core.new.lanes.items c.woven-tape.result.0
     c.woven-tape.result.1 c.close_with-core.result.fault c.close_with-core.result.sink_fault c.decided.result
     c.requires.taping c.close_with-core.ensures.turns numbers c.woven-tape.ensures.none c.woven-tape.ensures.turns c.woven-tape.ensures.sinks c.woven-tape.ensures.whole c.decided.ensures
