@@ -8,7 +8,7 @@ use Rattle.px_session.specs.declared.fault.Cause.TheVariants.{Trailing}
 use Rattle.px_session.specs.declared.fault.ReadError.{ReadError}
 use Rattle.px_session.specs.declared.fault.ReadError.TheVariants.{Refused, Failed, NoMemory}
 use Rattle.px_session.specs.declared.form.Form.{Form}
-use Rattle.px_session.specs.Place.{Place, Refusal, start_of}
+use Rattle.px_session.specs.Place.{Refusal, start_of}
 use Rattle.px_session.specs.Reader.{Reader, place_with, all_ahead, Gives}
 use Rattle.px_session.specs.HeaderReading.{header_at}
 use Rattle.px_session.specs.Session.{first_at}

@@ -1,5 +1,5 @@
 -- The records that are written are those of the effects and of a turn's frames.
-use Rattle.std.proofs.Common.{◌≡◌, ◌<◌, ◌+◌, ◌^◌, ℕ, List, ◌++◌, length, length-append, Bor, Option, None, Some, refl, sym, ap, ◌∙◌, arith, eqb, false}
+use Rattle.std.proofs.Common.{◌≡◌, ◌<◌, ◌^◌, ℕ, List, ◌++◌, length, length-append, Bor, Option, None, Some, refl, sym, ap, ◌∙◌, arith, eqb, false}
 use Rattle.std.proofs.lemmas.Bool.{ne_eqb}
 use Rattle.std.specs.List.{concat, flat_map}
 use Rattle.px_types.specs.declared.ids.ConnId.{ConnId}

@@ -4,8 +4,8 @@
 //! laws on inputs and refusals.
 #![tactic(auto)]
 
-mod converting;
 mod convert_stage;
+mod converting;
 mod ending;
 mod law;
 mod log;

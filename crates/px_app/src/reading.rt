@@ -17,10 +17,7 @@ use px_session::{Event, ReadError, Reader, Step};
 use std::alloc::Global;
 
 // Reads the header.
-fn next_header<S: Source>(
-    reader: &mut Reader,
-    input: &mut S,
-) -> Result<Header, ReadError>
+fn next_header<S: Source>(reader: &mut Reader, input: &mut S) -> Result<Header, ReadError>
     requires { reader.old.begun ≡ None }
     ensures takes { Takes (header_step result) reader.old reader.new (S.left input.old) (S.left input.new) }
     ensures lawful { IfOk result IsHeader }

@@ -5,27 +5,27 @@ use Rattle.px_state.specs.declared.effect.Effect.{Effect}
 use Rattle.px_ends.specs.Visible.{after_adding}
 use Rattle.px_ends.specs.Whole.{AddsFront}
 use Rattle.px_world.specs.Output.{effect_record}
-use Rattle.px_app.specs.Records.{played_part}
+use Rattle.px_app.specs.Records.{turn_part}
 use Rattle.px_app.proofs.FrontLaws.{first_cut, second_cut}
 use Rattle.px_app.proofs.records.write_records.Goals as goal
 
 pub returns-in_err-write_effects-clause-err : goal.returns-in_err-write_effects-clause-err
 returns-in_err-write_effects-clause-err g c =
     let effects = flat_map effect_record c.args.outcome.now.effects in
-    let played = played_part c.args.sink c.args.outcome.now.frames c.args.outcome.now.played in
+    let turn = turn_part c.args.sink c.args.outcome.now.stopped c.args.outcome.now.frames c.args.outcome.now.played in
     let old = g.K.Sink.held c.args.output.now in
     let now = g.K.Sink.held c.write_effects.new.output in
     let cut = subst (λ (es : List Effect). AddsFront (flat_map effect_record es) old now) c.as_slice.ensures.items c.in_err-write_effects.ensures.err in
     let p = err_from_is_err_and c.from_residual.result c.from_residual.ensures.1 in
-    rw (p.1) (first_cut effects played old now cut)
+    rw (p.1) (first_cut effects turn old now cut)
 
 pub returns-clause-err : goal.returns-clause-err
 returns-clause-err g c =
     let effects = flat_map effect_record c.args.outcome.now.effects in
     let old = g.K.Sink.held c.args.output.now in
     let mid = g.K.Sink.held c.write_effects.new.output in
-    let now = g.K.Sink.held c.write_played.new.output in
+    let now = g.K.Sink.held c.write_turn.new.output in
     let first : mid ≡ after_adding old effects = c.in_ok-write_effects.ensures.ok ∙ ap (λ (es : List Effect). after_adding old (flat_map effect_record es)) c.as_slice.ensures.items in
-    on_err_weaker c.write_played.result
-    (λ cut. second_cut effects (played_part c.args.sink c.args.outcome.now.frames c.args.outcome.now.played) old mid now first
-    (subst (λ (bytes : List ℕ). AddsFront (played_part c.args.sink c.args.outcome.now.frames bytes) mid now) c.as_slice-2.ensures cut)) c.write_played.ensures.err
+    on_err_weaker c.write_turn.result
+    (λ cut. second_cut effects (turn_part c.args.sink c.args.outcome.now.stopped c.args.outcome.now.frames c.args.outcome.now.played) old mid now first
+    (subst (λ (bytes : List ℕ). AddsFront (turn_part c.args.sink c.args.outcome.now.stopped c.args.outcome.now.frames bytes) mid now) c.as_slice-2.ensures cut)) c.write_turn.ensures.err
