@@ -43,8 +43,12 @@ fn frames(alloc: Global, first: u8, end: u8, zeros: &[u8]) -> Mem<Vec<u8>> {
 
 // Whether a turn that takes no messages plays these frames.
 fn plays(alloc: Global, world: &mut World, sink: u8, frames: u32, bytes: &[u8]) -> bool {
-    let take = 0;
-    match world.event(alloc, Event::Turn { sink, frames, take }) {
+    let turn = Event::Turn {
+        sink,
+        frames: u64::from(frames),
+        take: 0,
+    };
+    match world.event(alloc, turn) {
         Ok(outcome) => outcome.frames == frames && outcome.played.as_slice() == bytes,
         Err(_) => false,
     }

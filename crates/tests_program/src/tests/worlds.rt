@@ -51,6 +51,7 @@ pub fn turned(
     take: u32,
 ) -> Result<(usize, u32), WorldFault> {
     let sink = 0;
+    let (frames, take) = (u64::from(frames), u64::from(take));
     met(alloc, world, Event::Turn { sink, frames, take })
 }
 
