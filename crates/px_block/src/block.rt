@@ -101,12 +101,15 @@ impl Block {
         self.bytes.clear();
     }
 
-    /// Gives back the unused memory. Its room becomes smaller. Takes no memory.
+    /// Gives back the unused memory, where that is more than half of all and more than 1,024 bytes besides: to give back a little each
+    /// time would leave the heap in pieces. Its room doesn't grow. Takes no memory.
     pub fn fit(&mut self)
         ensures bytes { self.new.bytes ≡ self.old.bytes }
         ensures room { self.new.room ≤ self.old.room }
     {
-        self.bytes.shrink_to_fit();
+        if self.bytes.capacity() / 2 > self.bytes.len() + 1_024 {
+            self.bytes.shrink_to_fit();
+        }
     }
 
     /// Takes the room for `bytes` more bytes, up to `BLOCK_SIZE` in all. Without memory nothing changes.
