@@ -61,15 +61,6 @@ no_such_sink_is ending.Memory e = absurd cc
 no_such_sink_is ending.ReadFault e = absurd cc
 no_such_sink_is ending.WriteFault e = absurd cc
 
-pub usage_is : (said : Ending) → status_of said ≡ status.Usage → said ≡ ending.Usage
-usage_is ending.Usage e = cc
-usage_is ending.Done e = absurd cc
-usage_is (ending.Refused refusal) e = absurd cc
-usage_is ending.NoSuchSink e = absurd cc
-usage_is ending.Memory e = absurd cc
-usage_is ending.ReadFault e = absurd cc
-usage_is ending.WriteFault e = absurd cc
-
 done_no_memory : ending.Done ≡ ending.Memory → ⊥
 done_no_memory e = cc
 
@@ -78,9 +69,6 @@ refused_no_memory refusal e = cc
 
 unnamed_no_memory : ending.NoSuchSink ≡ ending.Memory → ⊥
 unnamed_no_memory e = cc
-
-usage_no_memory : ending.Usage ≡ ending.Memory → ⊥
-usage_no_memory e = cc
 
 read_no_memory : ending.ReadFault ≡ ending.Memory → ⊥
 read_no_memory e = cc
@@ -96,9 +84,6 @@ refused_no_write e = cc
 
 unnamed_no_write : status.NoSuchSink ≡ status.WriteFault → ⊥
 unnamed_no_write e = cc
-
-usage_no_write : status.Usage ≡ status.WriteFault → ⊥
-usage_no_write e = cc
 
 read_no_write : status.ReadFault ≡ status.WriteFault → ⊥
 read_no_write e = cc
@@ -140,12 +125,6 @@ module _ (ended : Ending) (answered : Status) (before after : Log) (r : Reported
       let s = logged_unless (λ e. unnamed_no_write (sym is ∙ e)) in
       let d = no_such_sink_is said (sym s.answer ∙ is) in
       sym (said_is (λ e. unnamed_no_memory (sym d ∙ e))) ∙ d
-
-  pub ended_usage : answered ≡ status.Usage → ended ≡ ending.Usage
-  ended_usage is =
-      let s = logged_unless (λ e. usage_no_write (sym is ∙ e)) in
-      let d = usage_is said (sym s.answer ∙ is) in
-      sym (said_is (λ e. usage_no_memory (sym d ∙ e))) ∙ d
 
   pub ended_read_fault : answered ≡ status.ReadFault → (ended ≡ ending.ReadFault) × (after.faults ≡ before.faults)
   ended_read_fault is =

@@ -108,3 +108,48 @@ fn a_stopped_sink_plays_no_frame_and_answers(rt: HostRuntime) -> Mem<()> {
     assert!(rt; matches!(failing_answers(rt.alloc(), &header), Ok(true)));
     Ok(())
 }
+
+// The filled count of a sink that an event stopped, if it stopped one.
+fn stopped(alloc: Global, world: &mut World, event: Event) -> Result<Option<u64>, WorldFault> {
+    match world.event(alloc, event) {
+        Ok(outcome) => Ok(outcome.stopped),
+        Err(fault) => Err(fault),
+    }
+}
+
+// A turn of the first sink that consumes nothing and takes no message.
+fn idle_turn() -> Event {
+    Event::Turn {
+        sink: 0,
+        frames: 0,
+        take: 0,
+    }
+}
+
+// A sink of guard 10 that is filled to frame 100 is stopped by the first turn after a `Stop`, which keeps what its guard does, and only by
+// that one.
+fn stops_once(alloc: Global, world: &mut World) -> bool {
+    stopped(alloc, world, idle_turn()) == Ok(None)
+        && stopped(alloc, world, Event::Stop(SinkId(0))) == Ok(None)
+        && stopped(alloc, world, idle_turn()) == Ok(Some(10))
+        && stopped(alloc, world, Event::Stop(SinkId(0))) == Ok(None)
+        && stopped(alloc, world, idle_turn()) == Ok(None)
+        && stopped(alloc, world, Event::Stop(SinkId(1))) == Err(WorldFault::NoSink)
+}
+
+fn new_world_stops_once(alloc: Global, header: &Header) -> Mem<bool>
+    requires { IsHeader header.now }
+{
+    let mut world = World::new(alloc, header)?;
+    let once = stops_once(alloc, &mut world);
+    // By a call, so that its fields are dropped by functions of their own.
+    drop(world);
+    Ok(once)
+}
+
+#[test]
+fn a_stop_is_told_by_the_turn_that_it_stops(rt: HostRuntime) -> Mem<()> {
+    let header = header_read(rt.alloc())?;
+    assert!(rt; matches!(new_world_stops_once(rt.alloc(), &header), Ok(true)));
+    Ok(())
+}
