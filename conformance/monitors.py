@@ -4,6 +4,7 @@
   conformance/monitors.py SESSION.session > SESSION.output
   conformance/monitors.py --sieved SESSION.session > SIEVED.session   the events that reach the server, as a session
   conformance/monitors.py --dice NUMBER TURNS > SESSION.session       record streams that come and go on three sinks, with dice
+  conformance/monitors.py --many > SESSION.session                    as many record streams as there can be, of two connections
   conformance/monitors.py --fronts > SESSION.session                  the mode's commands cut off at each byte, and with a byte too many
 
 A command of record streams, from a client whose AUTH was taken, never reaches the server: it is answered here. What a sink plays is
@@ -221,24 +222,37 @@ def throw(number, turns):
 
 def thrown_command(dice, conn, version):
     """One of the mode's commands, most often one that is taken."""
-    if dice.randrange(4) == 0:
-        return f"delete-record {conn} stream {dice.randrange(6)}"
+    if dice.randrange(3) == 0:
+        return f"delete-record {conn} stream {dice.randrange(9)}"
     at = dice.randrange(3)
     name, *shape = reckon.SINKS[at].split(" guard ")[0].split()
     named = dice.choice((f"index {at}", f"source {name}.monitor", "index 3", "source out")[: dice.choice((2, 2, 4))])
     if dice.randrange(6) == 0:
         shape, named = ["s24be", "1", "96000", "map", "1"], named + " fix_format fix_rate" + dice.choice((" fix_channels", ""))
     size = wire.frame_size((wire.FORMATS.index(reckon.SINKS[at].split()[1]), int(reckon.SINKS[at].split()[2]), 0))
-    size = dice.choice((NONE, 0, size, 3 * size + size // 2, 10 * size))
+    size = dice.choice((NONE, NONE, NONE, 0, 7 * size + size // 2, 20 * size))
     more = dice.choice(("", "", " early_requests")) if version > OLDEST else ""
     return f"create-record {conn} {' '.join(shape)} {named} maxlength {dice.choice((0, 5000, NONE))} fragsize {size}{more}"
+
+
+def many():
+    """64 record streams of a connection, and what it is told of more; two connections have 64 each."""
+    create = "create-record {} tag {} s16le 1 48000 map 0 fragsize {}"
+    lines = ["# A connection has at most 64 record streams at a time: where one is deleted there may be another, whose number is a new one.", f"sink {reckon.SINKS[0]}"]
+    for conn in (1, 2):
+        lines += [f"connect {conn}", f"auth {conn} tag 0 version 13", *(create.format(conn, tag, 2 * tag) for tag in range(1, MOST_STREAMS + 1))]
+    lines += ["turn out 0 take 0", "turn out 40 take 0", create.format(1, 65, 2), create.format(1, 66, 2) + " corked", create.format(1, 67, 2) + " index 1"]
+    lines += ["delete-record 1 tag 68 stream 10", create.format(1, 69, 2), create.format(1, 70, 2), "delete-record 1 tag 71 stream 64"]
+    lines += [*(f"delete-record 1 tag {72 + at} stream {at}" for at in (63, 0, 1)), create.format(1, 75, 60), create.format(2, 65, 2)]
+    lines += ["turn out 3 take 0", "close 2", "connect 2", "auth 2 tag 0 version 13", create.format(2, 1, 4), "turn out 3 take 0"]
+    return "\n".join([*lines, "end", ""])
 
 
 def thrown_by(words):
     """The session that the words ask for, or None where they ask for none."""
     if len(words) == 3 and words[0] == "--dice":
         return throw(int(words[1]), int(words[2]))
-    return thrown_recorders() if words == ["--fronts"] else None
+    return {"--fronts": thrown_recorders, "--many": many}.get(words[0], lambda: None)() if len(words) == 1 else None
 
 
 def main(words):
