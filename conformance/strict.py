@@ -14,7 +14,7 @@ class Reader:
         self.packet, self.at = packet, 0
 
     def bytes(self, count):
-        """So many bytes; where the packet ends before, the fault stands at its end."""
+        """The next `count` bytes; where the packet ends before, the fault stands at its end."""
         if self.at + count > len(self.packet):
             raise Fault(SHORT, len(self.packet))
         self.at += count
