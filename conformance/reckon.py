@@ -19,7 +19,7 @@
 It keeps each sample that was ever written in a map from index to sample, and mixes each frame anew. It knows volumes and mutes,
 the commands of a stream's life and its moves, names and property lists of clients and streams, the infos of sinks, inputs and
 clients, and only sessions that are played to their end and ask for nothing that is refused but by ACCESS, BADSTATE, VERSION,
-INVALID, NOENTITY, TOOLARGE and BUSY, and a stream that is made or moved by NOTSUPPORTED too. Of a packet that it can't read it takes
+INVALID, NOENTITY, TOOLARGE and BUSY, and a stream that is made or moved by NOTSUPPORTED too, as the commands of record streams are. Of a packet that it can't read it takes
 the last byte to be too much where it can read the others, and else the packet to be too short."""
 
 import copy
@@ -36,15 +36,17 @@ import infos
 import lanes
 import output
 import samples
+import strict
 import volumes
 import wire
 from maker import make
-from packets import NEWEST, OLDEST, fields_at, read_packet
+from packets import COMMANDS, NEWEST, OLDEST, RECORDERS, fields_at, read_packet
 from recording import read_session
 from words import NONE, line_of
 
 WORD = (1 << 32) - 1
 LAST = 1 << 60  # the greatest index of a frame, and the least below 0
+RECORDER_NUMBERS = [COMMANDS[word][0] for word in RECORDERS]
 CONTROLS = ("drain", "latency", "cork", "flush", "trigger", "prebuf", "attributes")
 
 
@@ -393,6 +395,8 @@ class Server:
 
     def packet(self, conn, packet):
         client = self.clients[conn]
+        if strict.number_of(packet) in RECORDER_NUMBERS:
+            return self.recorder(conn, packet)
         read = read_packet(packet, client.version)
         if read is None:
             over = read_packet(packet[:-1], client.version) is not None
@@ -405,6 +409,14 @@ class Server:
         if word in CONTROLS:
             return self.do_stream(conn, tag, word, values)
         return getattr(self, "do_" + word.replace("-", "_"), self.nothing)(conn, tag, values)
+
+    def recorder(self, conn, packet):
+        """A command of record streams, which only a mode of its own knows: its fields aren't read."""
+        client = self.clients[conn]
+        head, fault = strict.read(packet, (strict.NUMBER, strict.NUMBER), ends=False)
+        if fault:
+            return self.end(conn, 1, fault[0], client.gone - len(packet) + fault[1])
+        return self.error(conn, head[1], 19 if client.known else 1)
 
     def nothing(self, conn, tag, values):
         self.send(conn, 2, tag)

@@ -3,6 +3,7 @@
 import wire
 from course import Sink, Stream, Write
 from packets import Spoken, fields_at
+from recorders import channel_of
 from records import Records, whole_frames
 from replies import LISTS, MESSAGES, reply_fields
 from words import NONE, Wrong, number_word, quoted
@@ -13,14 +14,15 @@ ENDINGS = {1: "a protocol fault", 2: "a limit", 3: "a kill", 4: "want of memory"
 
 
 def segments(data, sinks):
-    """What was sent before each turn that played or stopped its sink, with that turn, and what ended the output early, or None."""
+    """What was sent before each turn that played or stopped its sink, with that turn, and what ended the output early, or None. The sound
+    that record streams were sent isn't drawn, and so left out."""
     records, found, fault = Records(data, sinks), [([], None)], None
     try:
         for record in records:
             if record[0] in (3, 4):
                 found[-1] = found[-1][0], record
                 found.append(([], None))
-            else:
+            elif record[0] == 2 or channel_of(record[2]) is None:
                 found[-1][0].append(record)
     except Wrong as wrong:
         fault = str(wrong)

@@ -171,6 +171,7 @@ LIST = (None, PROPERTIES, [])
 STREAM = number("stream")
 SINK = [number("index", NONE), ("sink", TEXT, None)]
 REMIXING = "no_remap no_remix fix_format fix_rate fix_channels no_move variable_rate muted adjust_latency"
+RECORDING = "no_remap no_remix fix_format fix_rate fix_channels no_move variable_rate peak_detect adjust_latency"
 
 # Each command's word with its number and its fields at version 13: the field's name, its kind and what it is where it isn't said.
 COMMANDS = {
@@ -180,6 +181,11 @@ COMMANDS = {
         ("volume", VOLUME, [65536]), *flags(REMIXING), LIST,
     ]),
     "delete": (4, [STREAM]),
+    "create-record": (5, [
+        (None, SPEC, NEEDED), ("map", MAP, NEEDED), number("index", NONE), ("source", TEXT, None), number("maxlength", NONE),
+        *flags("corked"), number("fragsize", NONE), *flags(RECORDING), LIST, number("direct_input", NONE),
+    ]),
+    "delete-record": (6, [STREAM]),
     "auth": (8, [("version", VERSION, NEEDED), ("cookie", COOKIE, lambda scene, said: scene.cookie)]),
     "name": (9, [LIST]),
     "lookup-sink": (10, [("sink", TEXT, None)]),
@@ -221,6 +227,7 @@ COMMANDS = {
     "card-infos": (89, []),
 }
 NUMBERS = {code: word for word, (code, _) in COMMANDS.items()}
+RECORDERS = ("create-record", "delete-record")  # the commands that `replay --monitor` knows, and `replay` refuses
 # What each later version adds at the end of a command's fields.
 LATER = {
     "create": [
@@ -229,6 +236,7 @@ LATER = {
         (17, flags("relative_volume")),
         (18, flags("passthrough")),
     ],
+    "create-record": [(14, flags("early_requests")), (15, flags("dont_inhibit_auto_suspend fail_on_suspend"))],
     "attributes": [(14, flags("early_requests"))],
 }
 

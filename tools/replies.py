@@ -35,6 +35,10 @@ REPLIES = {
         ("stream", NUMBER), ("input", NUMBER), ("wanted", NUMBER), *ATTRIBUTES, ("spec", SPEC), ("map", MAP),
         *SINK, ("suspended", FLAG), ("usec", USEC),
     ],
+    "create-record": [
+        ("stream", NUMBER), ("output", NUMBER), ("maxlength", NUMBER), ("fragsize", NUMBER), ("spec", SPEC), ("map", MAP),
+        ("index", NUMBER), ("source", TEXT), ("suspended", FLAG), ("usec", USEC),
+    ],
     "latency": [
         ("usec", USEC), ("source-usec", USEC), ("playing", FLAG), ("time", TIME), ("again", TIME),
         ("write", SIGNED), ("read", SIGNED), ("underrun", WIDE), ("played", WIDE),
@@ -60,7 +64,8 @@ SINK_INFO_LATER = [
 LATER = {"sink-info": SINK_INFO_LATER, "sink-infos": SINK_INFO_LATER, "server-info": [(15, [("map", MAP)])]}
 # No other reply has these kinds of fields.
 SHAPES = [
-    ("create", OLDEST), ("latency", OLDEST), ("attributes", OLDEST), ("server-info", OLDEST), ("server-info", NEWEST),
+    ("create", OLDEST), ("create-record", OLDEST), ("latency", OLDEST), ("attributes", OLDEST), ("server-info", OLDEST),
+    ("server-info", NEWEST),
 ]
 
 MESSAGES = {

@@ -7,7 +7,7 @@ LONG = 16  # frames of one value that stand by themselves
 SOUND = re.compile(r"(-?[0-9]+(?:/-?[0-9]+)*)(?:x([0-9]+))?")
 FRAMES = re.compile(r"(played \S+ [0-9]+ frames:)(.*)", re.DOTALL)
 HEX = re.compile(r"((?:.* )?hex)((?: [0-9a-f]{2,64}(?:x[0-9]+)?)+)")
-DATA = re.compile(r"(data [0-9]+ stream [0-9]+(?: (?:seek|offset|flags) \S+)*)((?: -?[0-9]+(?:/-?[0-9]+)*(?:x[0-9]+)?)+)")
+DATA = re.compile(r"((?:data|sent) [0-9]+(?: data)? stream [0-9]+(?: (?:seek|offset|flags) \S+)*)((?: -?[0-9]+(?:/-?[0-9]+)*(?:x[0-9]+)?)+)")
 
 
 def level(word):

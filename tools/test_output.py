@@ -203,7 +203,7 @@ class Outputs(unittest.TestCase):
 
     def test_a_frame_that_no_packet_has(self):
         frame = bytearray(wire.packet_frame(b"L\0\0\0\2L\0\0\0\0"))
-        for place in (7, 11, 15, 19):
+        for place in (3, 11, 15, 19):
             changed = frame[:]
             changed[place] ^= 1
             said = output.show(b"\1\0\0\0\1" + len(changed).to_bytes(4, "big") + changed + b"\0", self.SESSION)[0]

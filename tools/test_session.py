@@ -109,7 +109,7 @@ class Bytes(unittest.TestCase):
 
     def test_command_numbers(self):
         numbers = {
-            "create": 3, "delete": 4, "auth": 8, "name": 9, "lookup-sink": 10, "drain": 12, "latency": 14,
+            "create": 3, "delete": 4, "create-record": 5, "delete-record": 6, "auth": 8, "name": 9, "lookup-sink": 10, "drain": 12, "latency": 14,
             "server-info": 20, "sink-info": 21, "sink-infos": 22, "source-infos": 24, "module-infos": 26,
             "client-info": 27, "client-infos": 28, "input-info": 29, "input-infos": 30, "source-output-infos": 32,
             "sample-infos": 34, "subscribe": 35, "sink-volume": 36, "volume": 37, "sink-mute": 39, "cork": 41,
@@ -264,6 +264,9 @@ class Shown(unittest.TestCase):
             "remove-stream 1 tag 36 stream 0 keys a b", "remove-client 1 tag 37",
             "create 1 tag 38 alaw 2 44100 map 1,2 index 3 sink out maxlength 9 corked syncid 5 volume 1,2 no_remap "
             "fix_rate muted a=b",
+            "create-record 1 tag 40 s16le 1 48000 map 0", "delete-record 1 tag 41 stream 0",
+            "create-record 1 tag 42 s24be 2 44100 map 1,2 index 3 source out.monitor maxlength 9 corked fragsize 6 no_remap fix_rate "
+            "peak_detect a=b direct_input 7",
             'name 1 tag 39 "a=b"="c\\x01\\\\\\"d\u00e4" application.name="my player"', "packet 1 hex 4c000000ff",
             "bytes 1 hex 0102", "bytes 1 hex 030405",
         ]

@@ -14,8 +14,9 @@ import test_header
 import test_launcher
 import test_output
 import test_picture
+import test_recorders
 import test_session
 
 loader = unittest.defaultTestLoader
-suite = unittest.TestSuite(map(loader.loadTestsFromModule, (test_session, test_output, test_picture, test_commands, test_conformance, test_crates, test_edits, test_header, test_launcher)))
+suite = unittest.TestSuite(map(loader.loadTestsFromModule, (test_session, test_output, test_recorders, test_picture, test_commands, test_conformance, test_crates, test_edits, test_header, test_launcher)))
 sys.exit(not unittest.TextTestRunner().run(suite).wasSuccessful())
