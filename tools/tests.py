@@ -6,6 +6,7 @@ import unittest
 
 sys.dont_write_bytecode = True
 
+import test_believed
 import test_commands
 import test_conformance
 import test_crates
@@ -17,5 +18,5 @@ import test_picture
 import test_session
 
 loader = unittest.defaultTestLoader
-suite = unittest.TestSuite(map(loader.loadTestsFromModule, (test_session, test_output, test_picture, test_commands, test_conformance, test_crates, test_edits, test_header, test_launcher)))
+suite = unittest.TestSuite(map(loader.loadTestsFromModule, (test_session, test_output, test_picture, test_commands, test_conformance, test_crates, test_believed, test_edits, test_header, test_launcher)))
 sys.exit(not unittest.TextTestRunner().run(suite).wasSuccessful())
