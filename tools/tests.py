@@ -10,6 +10,7 @@ import test_believed
 import test_commands
 import test_conformance
 import test_crates
+import test_docs
 import test_edits
 import test_header
 import test_launcher
@@ -18,5 +19,5 @@ import test_picture
 import test_session
 
 loader = unittest.defaultTestLoader
-suite = unittest.TestSuite(map(loader.loadTestsFromModule, (test_session, test_output, test_picture, test_commands, test_conformance, test_crates, test_believed, test_edits, test_header, test_launcher)))
+suite = unittest.TestSuite(map(loader.loadTestsFromModule, (test_session, test_output, test_picture, test_commands, test_conformance, test_crates, test_believed, test_docs, test_edits, test_header, test_launcher)))
 sys.exit(not unittest.TextTestRunner().run(suite).wasSuccessful())
