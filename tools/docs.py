@@ -5,7 +5,7 @@
   tools/docs.py --count         how many faults of each kind each document has
 
 A fault is a line over 160 characters outside of tables and code, a link to nothing, and the name of a crate, a file or a function that isn't
-there. Names are looked at in backticks, and paths below docs/, tools/, conformance/, examples/, crates/ and man/ wherever they stand. A crate is `px_world`, a
+there. Names are looked at in backticks, and paths below docs/, tools/, conformance/, examples/, crates/, package/ and man/ wherever they stand. A crate is `px_world`, a
 file `px_world/src/event.rt`, `src/event.rt` (of a crate that the paragraph names, or of any), `event.rt` or `docs/SERVING.md`, a function `px_app::run`,
 `World::event` or `event.rt: event`. A name with an underscore or with two capitals, as `worked_rows` or `IsPlayed`, must stand somewhere in the sources. A word of
 capitals alone in a path, as in `crates/NAME/src`, stands for a name."""
@@ -21,7 +21,7 @@ from words import Wrong
 TOP = os.path.dirname(os.path.dirname(os.path.abspath(__file__)))
 WIDEST = 160
 KINDS = "long", "link", "crate", "file", "name"
-FOLDERS = "docs|tools|conformance|examples|crates|man|bench"
+FOLDERS = "docs|tools|conformance|examples|crates|package|man|bench"
 PATH = re.compile(rf"(?<![\w./-])(?:\./)?((?:{FOLDERS})/[\w./-]*[\w/-])")
 FILE = re.compile(r"([\w.-]+(?:/[\w.-]+)*\.(?:rt|antt|py|sh|md|c|edit))(?:: (\w+))?")
 CRATE = re.compile(r"(?:px|tests)_\w+")

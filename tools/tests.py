@@ -15,9 +15,11 @@ import test_edits
 import test_header
 import test_launcher
 import test_output
+import test_package
 import test_picture
+import test_px
 import test_session
 
 loader = unittest.defaultTestLoader
-suite = unittest.TestSuite(map(loader.loadTestsFromModule, (test_session, test_output, test_picture, test_commands, test_conformance, test_crates, test_believed, test_docs, test_edits, test_header, test_launcher)))
+suite = unittest.TestSuite(map(loader.loadTestsFromModule, (test_session, test_output, test_picture, test_commands, test_conformance, test_crates, test_believed, test_docs, test_edits, test_header, test_launcher, test_package, test_px)))
 sys.exit(not unittest.TextTestRunner().run(suite).wasSuccessful())
