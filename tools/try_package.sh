@@ -123,7 +123,7 @@ say "a replay, its WAV file, its picture, and a session from text"
 unit=$root/usr/lib/systemd/user/pulse_rw.service
 if command -v systemd-analyze >/dev/null; then
     # where the program is to be found is another question than how the unit is written
-    systemd-analyze --user verify "$unit" 2>&1 | grep 'pulse_rw.service' | grep -v 'is not executable\|pulse_rw(1)' >"$room/said" || true
+    XDG_RUNTIME_DIR=$room systemd-analyze --user verify "$unit" 2>&1 | grep 'pulse_rw.service' | grep -v 'is not executable\|pulse_rw(1)' >"$room/said" || true
     [ ! -s "$room/said" ] || fail "the unit: $(cat "$room/said")"
 fi
 line_of() { sed -n "s,^$1=,,p" "$unit" | sed "s,%h,/home/anna,g; s,%t,/run/user/1000,g"; }
