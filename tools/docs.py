@@ -2,7 +2,7 @@
 """The documents, held against the repository: README.md, HACKING.md, CHANGELOG.md and docs/*.md.
 
   tools/docs.py [FILE..]        each fault of them in a line: the file, the line and the cause
-  tools/docs.py --count         how many faults of each kind each document has
+  tools/docs.py --count         how many bytes each document has, and how many faults of each kind
 
 A fault is a line over 160 characters outside of tables and code, a link to nothing, and the name of a crate, a file or a function that isn't
 there. Names are looked at in backticks, and paths below docs/, tools/, conformance/, examples/, crates/, package/ and man/ wherever they stand. A crate is `px_world`, a
@@ -207,9 +207,9 @@ def main(words):
         print(wrong, file=sys.stderr)
         return 1
     if words == ["--count"]:
-        print(f"{'':24}" + "".join(f"{kind:>7}" for kind in KINDS))
+        print(f"{'':24}  bytes" + "".join(f"{kind:>7}" for kind in KINDS))
         for path in asked:
-            print(f"{path:24}" + "".join(f"{sum(1 for it in found if it[0] == path and it[2] == kind):7}" for kind in KINDS))
+            print(f"{path:24}{os.path.getsize(os.path.join(TOP, path)):7}" + "".join(f"{sum(1 for it in found if it[0] == path and it[2] == kind):7}" for kind in KINDS))
     else:
         for path, number, _, cause in found:
             print(f"{path}:{number}: {cause}")
