@@ -62,6 +62,30 @@ class Packing(unittest.TestCase):
         for name in os.listdir(f"{root}/usr/share/pulse_rw/tools"):
             self.assertFalse(name.startswith("test") or name == "__pycache__", name)
 
+    def test_the_program_that_was_built(self):
+        copy = self.path("copy")
+        for part in ("tools", "package", "man", "docs", "examples"):
+            shutil.copytree(os.path.join(TOP, part), os.path.join(copy, part))
+        for name in ("VERSION", "README.md"):
+            shutil.copy2(os.path.join(TOP, name), copy)
+        os.makedirs(os.path.join(copy, "crates/pulse_rw/out"))
+        for name, text in (("crates.txt", "pulse_rw:\n"), ("crates/pulse_rw/out/pulse_rw", "#!/bin/sh\n")):
+            with open(os.path.join(copy, name), "w", encoding="utf-8") as file:
+                file.write(text)
+        os.chmod(os.path.join(copy, "crates/pulse_rw/out/pulse_rw"), 0o755)
+        pack = os.path.join(copy, "tools/package.sh")
+        status, out, said = run(pack, "--to", self.room)
+        self.assertEqual((status, out), (1, ""))
+        self.assertIn("out/pulse_rw isn't there, or isn't built from these sources: run ./pulse_rw once", said)
+        total = run(os.path.join(copy, "tools/sources.sh"))[1].strip()
+        self.assertEqual(run(os.path.join(copy, "tools/built.sh"), "note", total)[0], 0)
+        status, out, said = run(pack, "--to", self.room)
+        self.assertEqual((status, said), (0, ""))
+        version = read("VERSION").strip()
+        self.assertEqual(os.path.basename(out).split("_")[:2], ["pulse-rw", version])
+        self.assertEqual(run("dpkg-deb", "-f", out.strip(), "Version"), (0, version + "\n", ""))
+        self.assertIn("each of its functions is proved", run("dpkg-deb", "-f", out.strip(), "Description")[1])
+
     def test_what_is_refused(self):
         self.assertEqual(self.pack("--program", "gone"), (1, "", "package.sh: gone: there is no such file\n"))
         self.assertEqual(self.pack("--program", self.path("it", b""), "--to", "gone"), (1, "", "package.sh: gone: there is no such folder\n"))
