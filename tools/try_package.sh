@@ -68,7 +68,7 @@ while read -r name; do
     dpkg-query -s "$name" >>"$root/var/lib/dpkg/status"
     echo >>"$root/var/lib/dpkg/status"
 done <"$room/packages" | grep -v '^usr/share/\(doc\|man\|locale\|info\|lintian\)/' | LC_ALL=C sort -u >"$room/files"
-tar -C / -c -T "$room/files" 2>/dev/null | tar -C "$root" -x
+tar -C / -c -T "$room/files" 2>/dev/null | tar -C "$root" --no-same-owner -x
 : >"$root/dev/null"
 chmod 666 "$root/dev/null"
 printf 'root:x:0:0::/root:/bin/sh\nanna:x:1000:1000::/home/anna:/bin/sh\n' >"$root/etc/passwd"
@@ -139,37 +139,39 @@ socket=$root/run/user/1000/pulse_rw.sock
 for _ in $(seq 100); do [ ! -S "$socket" ] || break; sleep 0.1; done
 [ -S "$socket" ] || fail "no socket: $(cat "$room/server")"
 cookie=$root/home/anna/.config/pulse/cookie
-python3 -B - "$top" "$socket" "$cookie" "$home/out.raw" <<'END' || fail "the client of conformance/client.py isn't played"
+# played FILE: waits until the sink's file has all of a sound; the last frames come after the answer to DRAIN
+played() {
+    python3 - "$1" "$home/out.raw" <<'END'
 import sys, time
-top, socket, cookie, raw = sys.argv[1:]
+with open(sys.argv[1], "rb") as file:
+    sound = file.read()
+for _ in range(100):
+    with open(sys.argv[2], "rb") as file:
+        if sound in file.read():
+            sys.exit(0)
+    time.sleep(0.1)
+sys.exit(1)
+END
+}
+python3 -B - "$top" "$socket" "$cookie" "$room/tone.raw" "$room/song.raw" <<'END' || fail "the client of conformance/client.py isn't played"
+import sys
+top, socket, cookie, tone_file, song_file = sys.argv[1:]
 sys.path[:0] = [f"{top}/conformance", f"{top}/tools"]
 import client
 from served import tone
 client.RATE = 44_100
-sound = tone(4_410, 2)
-with open(cookie, "rb") as file:
-    key = file.read()
-with client.Client(socket, 30) as it:
-    it.enter(key)
-    it.play("out", sound)
-with open(raw, "rb") as file:
-    sys.exit(0 if sound in file.read() else "the sink's file hasn't the sound that was sent")
+for path, pitch in ((tone_file, 440), (song_file, 660)):
+    with open(path, "wb") as file:
+        file.write(tone(4_410, 2, pitch))
+with open(cookie, "rb") as file, open(tone_file, "rb") as sound, client.Client(socket, 30) as it:
+    it.enter(file.read())
+    it.play("out", sound.read())
 END
+played "$room/tone.raw" || fail "the sink's file hasn't the sound of the client of conformance/client.py"
 say "a server by the unit's lines, and a client that was played to its last frame"
 if command -v paplay >/dev/null; then
-    python3 -B - "$top" "$room/song.raw" <<'END'
-import sys
-sys.path[:0] = [f"{sys.argv[1]}/conformance", f"{sys.argv[1]}/tools"]
-from served import tone
-with open(sys.argv[2], "wb") as file:
-    file.write(tone(8_820, 2, 660))
-END
     PULSE_SERVER=unix:$socket PULSE_COOKIE=$cookie HOME=$room timeout 30 paplay --raw --rate=44100 --channels=2 --format=s16le "$room/song.raw" || fail "paplay ends with $?"
-    python3 - "$home/out.raw" "$room/song.raw" <<'END' || fail "the sink's file hasn't what paplay sent"
-import sys
-one, other = (open(path, "rb").read() for path in sys.argv[1:])
-sys.exit(0 if other in one else 1)
-END
+    played "$room/song.raw" || fail "the sink's file hasn't what paplay sent"
     say "paplay, too"
 fi
 kill "$server"
