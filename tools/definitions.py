@@ -166,7 +166,7 @@ def chunks(definition):
 
 
 def bound_in(chunk, kind):
-    """The names that a chunk binds itself: behind λ, in brackets with their type, by `let` and arrows, and those of a record's fields."""
+    """The names that a chunk binds itself: after λ, in brackets with their type, by `let` and arrows, and those of a record's fields."""
     found = set()
     for names in BOUND.findall(chunk) + LAMBDA.findall(chunk):
         found.update(names.split())
