@@ -13,9 +13,11 @@ TOO_MANY = re.compile(rb"too many, ([0-9]+) of ([0-9]+)")
 
 
 def program():
-    """Where the built program is: what PULSE_RW_PROGRAM names, or the one that is built from these very sources."""
+    """Where the built program is: what PULSE_RW_PROGRAM names, the one that is installed beside installed tools, or the one that is built from these very sources."""
     if "PULSE_RW_PROGRAM" in os.environ:
         return os.environ["PULSE_RW_PROGRAM"]
+    if not os.path.exists(os.path.join(TOP, "crates.txt")):
+        return "pulse_rw"
     total = subprocess.run([os.path.join(TOP, "tools", "sources.sh")], capture_output=True, text=True).stdout.strip()
     if subprocess.run([os.path.join(TOP, "tools", "built.sh"), "is", total]).returncode:
         raise Wrong("`take all` asks the program how many there are: run ./pulse_rw once, so that it is built")

@@ -35,27 +35,34 @@ def positions_of(channels):
 
 
 def sink_of(word, guard, depth):
-    """The sink that a word says."""
+    """The sink that a word says; what is wrong names the word."""
+    try:
+        return sink_said(word, guard, depth)
+    except Wrong as wrong:
+        raise Wrong(f"{word}: {wrong}") from None
+
+
+def sink_said(word, guard, depth):
     name, form, channels, rate = (word.split(":") + ["", "", "", ""])[:4]
     if word.count(":") > 3:
-        raise Wrong(f"{word}: a sink is NAME:FORMAT:CHANNELS:RATE")
+        raise Wrong("a sink is NAME:FORMAT:CHANNELS:RATE")
     code = packets.format_of(form or "s16le")
     if code not in SINK_FORMATS:
-        raise Wrong(f"{word}: a sink can't have the format {form}")
+        raise Wrong(f"a sink can't have the format {form}")
     channels = number_of(channels or "2", "the count of channels", 1, 32)
     rate = number_of(rate or "48000", "the rate", 1, 192_000)
     depth = max(rate // 10, 1) if depth is None else number_of(depth, "the depth", 1, 65_536)
     guard = min(rate // 100, depth) if guard is None else number_of(guard, "the guard", 0, depth)
     data = name.encode()
     if not 1 <= len(data) <= 64 or not all(0x21 <= byte <= 0x7E for byte in data) or data[:1] == b"@" or b"/" in data:
-        raise Wrong(f"{word}: a name has 1 to 64 printable ASCII letters without blanks and slashes, the first of them not @")
+        raise Wrong("a name has 1 to 64 printable ASCII letters without blanks and slashes, the first of them not @")
     return SinkSpec(data, (code, channels, rate), positions_of(channels), guard, depth)
 
 
 def sinks_of(words, guard, depth):
     sinks = [sink_of(word, guard, depth) for word in words]
     if not 1 <= len(sinks) <= 16 or len({sink.name for sink in sinks}) < len(sinks):
-        raise Wrong("there are 1 to 16 sinks, each with a name of its own")
+        raise Wrong(f"{' '.join(words)}: there are 1 to 16 sinks, each with a name of its own")
     return sinks
 
 

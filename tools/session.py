@@ -36,10 +36,11 @@ def main(words):
     try:
         made = done(words)
     except Wrong as wrong:
-        print(f"{file}:{wrong}" if words[0] == "make" else f"{file}: {wrong}", file=sys.stderr)
+        print(f"{file}:{wrong}" if words[0] == "make" or str(wrong)[:1].isdigit() else f"{file}: {wrong}", file=sys.stderr)
         return 1
     except UnicodeDecodeError as fault:
-        print(f"{file}: {fault}", file=sys.stderr)
+        line = fault.object.count(b"\n", 0, fault.start) + 1
+        print(f"{file}:{line}: no text in UTF-8: the byte 0x{fault.object[fault.start]:02x}", file=sys.stderr)
         return 1
     if made is None:
         print(__doc__, file=sys.stderr)

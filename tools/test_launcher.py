@@ -23,9 +23,9 @@ class Launching(unittest.TestCase):
         self.room = tempfile.mkdtemp()
         self.addCleanup(shutil.rmtree, self.room)
         self.top = os.path.join(self.room, "a copy")
-        for part in ("tools", "bin", "examples", "crates/px_low/src", "crates/px_low/specs", "crates/pulse_rw/src", "crates/px_other/src"):
+        for part in ("tools", "package", "bin", "examples", "crates/px_low/src", "crates/px_low/specs", "crates/pulse_rw/src", "crates/px_other/src"):
             os.makedirs(os.path.join(self.top, part))
-        for name in ("pulse_rw", "tools/sources.sh", "tools/built.sh"):
+        for name in ("pulse_rw", "VERSION", "package/help.txt", "tools/sources.sh", "tools/built.sh"):
             shutil.copy2(os.path.join(TOP, name), os.path.join(self.top, name))
         self.write("bin/rt", RT)
         os.chmod(os.path.join(self.top, "bin/rt"), 0o755)
@@ -94,6 +94,12 @@ class Launching(unittest.TestCase):
     def test_it_says_where_the_program_is(self):
         program = os.path.join(self.top, "crates/pulse_rw/out/pulse_rw")
         self.assertEqual(self.run_it(PULSE_RW_PATH="1")[:2], (0, program + "\n"))
+
+    def test_help_and_version_want_no_program(self):
+        with open(os.path.join(TOP, "VERSION"), encoding="utf-8") as file:
+            self.assertEqual(self.run_it("--version"), (0, f"pulse_rw {file.read()}", "", []))
+        status, out, said, asked = self.run_it("--help")
+        self.assertEqual((status, out[:22], said, asked), (0, "usage: pulse_rw WORD .", "", []))
 
     def test_it_says_that_rt_is_not_there(self):
         os.remove(os.path.join(self.top, "bin/rt"))

@@ -6,17 +6,36 @@ import unittest
 
 sys.dont_write_bytecode = True
 
+import test_believed
 import test_commands
 import test_conformance
 import test_crates
+import test_docs
 import test_edits
 import test_header
 import test_launcher
 import test_output
+import test_package
 import test_picture
+import test_px
 import test_recorders
 import test_session
 
-loader = unittest.defaultTestLoader
-suite = unittest.TestSuite(map(loader.loadTestsFromModule, (test_session, test_output, test_recorders, test_picture, test_commands, test_conformance, test_crates, test_edits, test_header, test_launcher)))
+MODULES = (
+    test_session,
+    test_output,
+    test_recorders,
+    test_picture,
+    test_commands,
+    test_conformance,
+    test_crates,
+    test_believed,
+    test_docs,
+    test_edits,
+    test_header,
+    test_launcher,
+    test_package,
+    test_px,
+)
+suite = unittest.TestSuite(map(unittest.defaultTestLoader.loadTestsFromModule, MODULES))
 sys.exit(not unittest.TextTestRunner().run(suite).wasSuccessful())

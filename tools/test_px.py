@@ -1,0 +1,73 @@
+"""Tests of px: each word has a page and does what its tool does, and what is wrong is told with the file, the place and the cause."""
+
+import os
+import re
+import shutil
+import subprocess
+import sys
+import tempfile
+import unittest
+
+TOOLS = os.path.dirname(os.path.abspath(__file__))
+TOP = os.path.dirname(TOOLS)
+
+
+def run(*words, **how):
+    ran = subprocess.run(words, capture_output=True, text=True, **how)
+    return ran.returncode, ran.stdout, ran.stderr
+
+
+def px(*words, **how):
+    return run(sys.executable, "-B", os.path.join(TOOLS, "px"), *words, **how)
+
+
+class OneCommand(unittest.TestCase):
+    def setUp(self):
+        self.room = tempfile.mkdtemp()
+        self.addCleanup(shutil.rmtree, self.room)
+
+    def path(self, name, data=None):
+        path = os.path.join(self.room, name)
+        if data is not None:
+            with open(path, "wb") as file:
+                file.write(data)
+        return path
+
+    def test_each_word_has_a_page(self):
+        status, out, said = px("--help")
+        self.assertEqual((status, said), (0, ""))
+        words = re.findall(r"^  px (\w+) \.\.", out, re.M)
+        self.assertEqual(words, ["session", "output", "picture", "header", "believed", "package"])
+        for word in words:
+            status, page, said = px(word, "--help")
+            self.assertEqual((status, said), (0, ""), word)
+            self.assertGreater(len(page), 100, word)
+
+    def test_it_does_what_the_tools_do(self):
+        example = os.path.join(TOP, "examples", "auth.prs")
+        self.assertEqual(px("session", "show", example), run(sys.executable, "-B", os.path.join(TOOLS, "session.py"), "show", example))
+
+    def test_errors_name_the_file_the_place_and_the_cause(self):
+        text, bad = self.path("a.txt", b"sink out s16le 1 48000 map 0 guard 1 depth 9\nfoo 1\n"), self.path("b.txt", b"# one\n\xff\n")
+        cut, out = self.path("cut.prs", b"PRS1"), self.path("x.out", b"x")
+        for words, said in (
+            (("session", "make", text), f"{text}:2: foo begins no line"),
+            (("session", "at", "999", text), f"{text}:2: foo begins no line"),
+            (("session", "make", bad), f"{bad}:2: no text in UTF-8: the byte 0xff"),
+            (("session", "make", "/gone.txt"), "/gone.txt: No such file or directory"),
+            (("session", "show", cut), f"{cut}: refused at 4: truncated"),
+            (("output", "show", out), f"{out}: no record begins with 120, at 0"),
+            (("picture", out, "--session", cut), f"{cut}: refused at 4: truncated"),
+            (("header", "out:foo"), "out:foo: a format is a number, which foo isn't"),
+            (("header", "a", "a"), "a a: there are 1 to 16 sinks, each with a name of its own"),
+            (("believed", "--check", out), f"{out}: a table stands between one line"),
+            (("package", "--program", "/gone"), "package.sh: /gone: there is no such file"),
+        ):
+            status, wrote, err = px(*words)
+            self.assertEqual((status, wrote, err[: len(said)]), (1, "", said), words)
+        for words in ((), ("other",), ("session",), ("picture", out), ("believed", "other"), ("package", "other")):
+            self.assertEqual(px(*words)[0:2], (2, ""), words)
+
+
+if __name__ == "__main__":
+    unittest.main()
