@@ -1,6 +1,6 @@
 //! The recorder in memory, and the one that holds nothing.
 
-ghost use Rattle.std.specs.Prelude.{◌≡◌, [], length, slice_get, IfOk, IsOk};
+ghost use Rattle.std.specs.Prelude.{◌≡◌, [], length, slice_get, IsTrue, IsFalse, IfOk, IsOk};
 ghost use Rattle.std.specs.Option.{option_map};
 
 use crate::entry::{CoreEntry, LaneEntry};
@@ -88,6 +88,12 @@ impl<E: Entry + Drop> Recorder<E> for MemRecorder<E> {
 
     ghost fulls = { λ r. r.fulls };
 
+    fn keeps(&self) -> bool
+        ensures { IsTrue result }
+    {
+        true
+    }
+
     fn ready(&mut self, _bytes: usize) -> Result<(), RecordFault> {
         if self.entries.len() >= self.most_entries || self.bytes >= self.most_bytes {
             self.fulls = self.fulls.saturating_add(1);
@@ -127,6 +133,12 @@ impl Recorder<LaneEntry> for NoRecorder {
 
     ghost fulls = { λ r. 0 };
 
+    fn keeps(&self) -> bool
+        ensures { IsFalse result }
+    {
+        false
+    }
+
     fn ready(&mut self, _bytes: usize) -> Result<(), RecordFault>
         ensures { IsOk result }
     {
@@ -150,6 +162,12 @@ impl Recorder<CoreEntry> for NoRecorder {
     ghost faults = { λ r. 0 };
 
     ghost fulls = { λ r. 0 };
+
+    fn keeps(&self) -> bool
+        ensures { IsFalse result }
+    {
+        false
+    }
 
     fn ready(&mut self, _bytes: usize) -> Result<(), RecordFault>
         ensures { IsOk result }

@@ -1,6 +1,6 @@
 //! Recorders and their entries.
 
-ghost use Rattle.std.specs.Prelude.{◌≡◌, ◌≤◌, ℕ, List, Option, OnOk};
+ghost use Rattle.std.specs.Prelude.{◌≡◌, ◌≤◌, ℕ, List, Option, None, IsFalse, OnOk};
 ghost use Rattle.std.specs.Option.{option_map};
 ghost use Rattle.px_annals.specs.History.{Limit, noted, sizes_by, SaysFull, ReadyCounts};
 
@@ -42,6 +42,10 @@ pub trait Recorder<E: Entry> {
 
     /// How many of its calls found it full.
     ghost fulls: { Self → ℕ };
+
+    /// Whether it has a use for entries. Where it has none, its entries aren't visible, and none needs to be made for it.
+    fn keeps(&self) -> bool
+        ensures { IsFalse result → visible self.now ≡ None };
 
     /// Takes room for one more entry of at most `bytes` bytes. `Full` where the entries or the bytes that it holds reach their limit,
     /// whatever is asked for; an entry that is let in may pass the limit.

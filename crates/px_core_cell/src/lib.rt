@@ -9,6 +9,7 @@ mod act;
 mod cell;
 mod ends;
 mod entry;
+mod kept;
 mod laws;
 mod log;
 mod parcel;
@@ -18,6 +19,7 @@ mod posting;
 mod seat;
 mod state;
 mod step;
+mod unkept;
 
 pub use cell::CoreCell;
 pub use ends::{CoreEnd, CoreEnds};

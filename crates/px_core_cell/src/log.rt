@@ -53,4 +53,15 @@ impl<C: Recorder<CoreEntry>> StepLog<C> {
         self.steps += 1;
         self.owed = owed;
     }
+    /// Counts a step that was done and whose entry nobody keeps, and sets whether a sweep is owed. Takes no memory.
+    pub(crate) fn count(&mut self, owed: bool)
+        requires { self.old.steps < 2 ^ 64 - 1 }
+        ensures recorder { self.new.recorder ≡ self.old.recorder }
+        ensures fault { self.new.fault ≡ self.old.fault }
+        ensures steps { self.new.steps ≡ self.old.steps + 1 }
+        ensures owed { self.new.owed ≡ owed }
+    {
+        self.steps += 1;
+        self.owed = owed;
+    }
 }

@@ -11,15 +11,15 @@ ghost use Rattle.px_core_cell.specs.Cause.{Says, StepSays};
 ghost use Rattle.px_core_cell.specs.Parcel.{spec_of};
 ghost use Rattle.px_core_cell.specs.Step.{is_own, waits, IsAsked, IsFree, OwnGives, NoticeGives, OutGives, NowhereGives, FreeGives, StepGives, OutStops, NoticeStops, Stops, IsNothing};
 
-use crate::act::act;
 use crate::ends::{CoreEnd, CoreEnds};
-use crate::entry::{notice_entry, own_entry};
+use crate::kept::{notice_kept, own_kept};
 use crate::log::StepLog;
 use crate::parcel::CellCore;
 use crate::step::{CoreStep, StepFault};
+use crate::unkept::{notice_unkept, own_unkept};
 use px_annals::{CoreEntry, PlainStep, Recorder};
 use px_core::Effects;
-use px_types::{NoMemory, SinkId};
+use px_types::SinkId;
 use std::alloc::Global;
 use std::sync::Wait;
 
@@ -31,7 +31,7 @@ pub struct CoreParts<C: Recorder<CoreEntry>> {
     pub ends: CoreEnds,
 }
 
-// Does a step without a sink.
+// Does a step without a sink; its entry is recorded where the recorder keeps entries.
 fn own_step<C: Recorder<CoreEntry>>(
     alloc: Global,
     core: &mut CellCore,
@@ -44,21 +44,14 @@ fn own_step<C: Recorder<CoreEntry>>(
     ensures gives { OwnGives C.visible step (logged_of core.old.state log.old) (logged_of core.new.state log.new) result }
     ensures said { Says C.limit C.visible C.faults C.fulls result log.old.recorder log.new.recorder }
 {
-    let owed = waits(&step);
-    let entry = own_entry(alloc, log, &step)?;
-    match act(alloc, core, step) {
-        Ok(effects) => {
-            log.note(entry, owed);
-            Ok(effects)
-        }
-        Err(NoMemory) => {
-            drop(entry);
-            Err(StepFault::NoMemory)
-        }
+    if log.recorder.keeps() {
+        own_kept(alloc, core, log, step)
+    } else {
+        own_unkept(alloc, core, log, step)
     }
 }
 
-// Does the step of a sink's next notice, if there is one.
+// Does the step of a sink's next notice, if there is one; its entry is recorded where the recorder keeps entries.
 fn notice_step<C: Recorder<CoreEntry>, R: Wait>(
     rt: &R,
     alloc: Global,
@@ -74,20 +67,10 @@ fn notice_step<C: Recorder<CoreEntry>, R: Wait>(
     ensures said { StepSays C.limit C.visible C.faults C.fulls result log.old.recorder log.new.recorder }
     ensures boxes { boxes_of end.new ≡ boxes_of end.old }
 {
-    end.fetch(rt);
-    let Some(notice) = &end.held else {
-        return Ok(None);
-    };
-    let entry = notice_entry(alloc, log, sink, notice)?;
-    match end.collect(core, sink) {
-        Ok(effects) => {
-            log.note(entry, true);
-            Ok(Some(effects))
-        }
-        Err(NoMemory) => {
-            drop(entry);
-            Err(StepFault::NoMemory)
-        }
+    if log.recorder.keeps() {
+        notice_kept(rt, alloc, core, log, end, sink)
+    } else {
+        notice_unkept(rt, core, log, end, sink)
     }
 }
 
@@ -274,8 +257,8 @@ impl<C: Recorder<CoreEntry>> CoreParts<C> {
     }
 }
 
-// Whether a step waits for an owed sweep.
-fn waits(step: &CoreStep) -> bool
+/// Whether a step waits for an owed sweep.
+pub(crate) fn waits(step: &CoreStep) -> bool
     ensures { result ≡ waits step.now }
 {
     !matches!(step, CoreStep::Sweep | CoreStep::Out(_))

@@ -1,5 +1,5 @@
 -- A history in memory, or none.
-use Rattle.std.specs.Prelude.{ℕ, ◌≤◌, List, Option, None, Some, ⊤}
+use Rattle.std.specs.Prelude.{ℕ, ◌≤◌, Bool, true, false, List, Option, None, Some, ⊤}
 use Rattle.px_annals.specs.History.{Limit}
 use Rattle.px_host.specs.declared.history.History.{History}
 use Rattle.px_host.specs.declared.history.History.TheVariants.{InMemory, Discarded}
@@ -12,6 +12,11 @@ module _ {E : Type 0} where
   abbrev pub limit_of : History E → Option Limit
   limit_of (InMemory recorder) = Some recorder.limit
   limit_of Discarded = None
+
+  -- whether entries are stored
+  abbrev pub keeps_in : History E → Bool
+  keeps_in (InMemory recorder) = true
+  keeps_in Discarded = false
 
   abbrev pub CanTake : History E → Type 0
   CanTake (InMemory recorder) = 1 ≤ recorder.room

@@ -1,6 +1,6 @@
 // A history in memory, or none.
 ghost use Rattle.std.specs.Prelude.{◌≡◌};
-ghost use Rattle.px_host.specs.History.{fulls_of};
+ghost use Rattle.px_host.specs.History.{keeps_in, fulls_of};
 
 use px_annals::{Entry, MemRecorder, RecordFault, Recorder};
 
@@ -37,6 +37,15 @@ impl<E: Entry + Drop> Recorder<E> for History<E> {
     ghost faults = { λ h. 0 };
 
     ghost fulls = { fulls_of };
+
+    fn keeps(&self) -> bool
+        ensures { result ≡ keeps_in self.now }
+    {
+        match self {
+            History::InMemory(_) => true,
+            History::Discarded => false,
+        }
+    }
 
     fn ready(&mut self, bytes: usize) -> Result<(), RecordFault> {
         match self {

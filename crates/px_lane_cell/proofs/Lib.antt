@@ -4,3 +4,4 @@ mod Replayed
 mod Sent
 mod Moves
 mod Whole
+mod Told

@@ -72,8 +72,8 @@ fn counted<D: Device + Drop, B: BlockSource, T: Ledger>(
     lane.turn(alloc, messages, notices, blocks, &mut steps)
 }
 
-/// A turn with all of these messages, whose entry is recorded.
-pub(crate) fn turn_noted<D: Device + Drop, R: Recorder<LaneEntry>, B: BlockSource>(
+// A turn with all of these messages, whose entry is recorded.
+fn turn_kept<D: Device + Drop, R: Recorder<LaneEntry>, B: BlockSource>(
     alloc: Global,
     lane: &mut Lane<D>,
     recorder: &mut R,
@@ -114,5 +114,58 @@ pub(crate) fn turn_noted<D: Device + Drop, R: Recorder<LaneEntry>, B: BlockSourc
             drop(entry);
             Err(lane_fault(fault))
         }
+    }
+}
+
+// A turn with all of these messages, whose entry nobody keeps.
+fn turn_unkept<D: Device + Drop, B: BlockSource>(
+    alloc: Global,
+    lane: &mut Lane<D>,
+    messages: &mut MsgList,
+    notices: &mut NoticeList,
+    blocks: &mut B,
+) -> Result<Turned, CellFault>
+    requires messages { IsOrderly Plain.spec lane.old.sink.spec (specs_of lane.old.sink.inputs) messages.old.messages }
+    requires attached { IsFalse lane.old.sink.stopped → IsAttached (D.now lane.old.device) lane.old.sink }
+    ensures ok { IfOk result (λ turned. (entry : LaneEntry) × (length entry.messages ≡ length messages.old.messages) × (messages.new.messages ≡ [])
+        × IsNoted D.now lane.old lane.new messages.old.messages notices.old.notices notices.new.notices turned entry) }
+    ensures err { OnErr result ((lane.new ≡ lane.old) × (messages.new.messages ≡ messages.old.messages) × (notices.new.notices ≡ notices.old.notices)) }
+    ensures room { messages.new.capacity ≡ messages.old.capacity }
+    ensures worn { IsWorn result lane.old.sink.filled }
+    ensures said { recorder_said result ≡ Ok tt }
+{
+    // Its contract says that each parcel in the messages is a well-formed stream, and such a stream has a plain form.
+    messages.len();
+    match counted::<D, B, Brand>(Blank::new(1), alloc, lane, messages, notices, blocks) {
+        Ok(turned) => Ok(turned),
+        Err(fault) => Err(lane_fault(fault)),
+    }
+}
+
+/// A turn with all of these messages, whose entry is recorded where the recorder keeps entries.
+pub(crate) fn turn_noted<D: Device + Drop, R: Recorder<LaneEntry>, B: BlockSource>(
+    alloc: Global,
+    lane: &mut Lane<D>,
+    recorder: &mut R,
+    messages: &mut MsgList,
+    notices: &mut NoticeList,
+    blocks: &mut B,
+) -> Result<Turned, CellFault>
+    requires messages { IsOrderly Plain.spec lane.old.sink.spec (specs_of lane.old.sink.inputs) messages.old.messages }
+    requires attached { IsFalse lane.old.sink.stopped → IsAttached (D.now lane.old.device) lane.old.sink }
+    ensures ok { IfOk result (λ turned. (entry : LaneEntry) × (R.visible recorder.new ≡ noted entry (R.visible recorder.old))
+        × (length entry.messages ≡ length messages.old.messages) × (messages.new.messages ≡ [])
+        × IsNoted D.now lane.old lane.new messages.old.messages notices.old.notices notices.new.notices turned entry) }
+    ensures err { OnErr result ((lane.new ≡ lane.old) × (R.visible recorder.new ≡ R.visible recorder.old) × (messages.new.messages ≡ messages.old.messages) × (notices.new.notices ≡ notices.old.notices)) }
+    ensures room { messages.new.capacity ≡ messages.old.capacity }
+    ensures worn { IsWorn result lane.old.sink.filled }
+    ensures why { SaysWhy result (R.limit recorder.old) (option_map (sizes_by size_of_lane_entry) (R.visible recorder.old)) }
+    ensures limit { R.limit recorder.new ≡ R.limit recorder.old }
+    ensures counts { ReadyCounts (recorder_said result) (R.faults recorder.old) (R.faults recorder.new) (R.fulls recorder.old) (R.fulls recorder.new) }
+{
+    if recorder.keeps() {
+        turn_kept(alloc, lane, recorder, messages, notices, blocks)
+    } else {
+        turn_unkept(alloc, lane, messages, notices, blocks)
     }
 }

@@ -50,6 +50,10 @@ impl Recorder<LaneEntry> for Crowded {
 
     ghost fulls = { λ r. r.fulls };
 
+    fn keeps(&self) -> bool {
+        true
+    }
+
     fn ready(&mut self, _bytes: usize) -> Result<(), RecordFault> {
         let entries = self.entries.len();
         if entries == self.full_at && self.fulls == 0 {

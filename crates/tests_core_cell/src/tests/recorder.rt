@@ -51,6 +51,10 @@ impl Recorder<CoreEntry> for Crowded {
 
     ghost fulls = { λ r. r.fulls };
 
+    fn keeps(&self) -> bool {
+        true
+    }
+
     fn ready(&mut self, _bytes: usize) -> Result<(), RecordFault> {
         let entries = self.entries.len();
         if entries == self.full_at && self.fulls == 0 {

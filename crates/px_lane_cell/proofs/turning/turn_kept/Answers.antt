@@ -9,7 +9,7 @@ use Rattle.px_model.specs.Stream.{Stream}
 use Rattle.px_model.specs.Message.{Message}
 use Rattle.px_lane_cell.specs.Meaning.{message_meant}
 use Rattle.px_lane_cell.proofs.Whole.{is_noted}
-use Rattle.px_lane_cell.proofs.turning.turn_noted.Goals as goal
+use Rattle.px_lane_cell.proofs.turning.turn_kept.Goals as goal
 
 pub returns-in-Ok-counted-clause-ok : goal.returns-in-Ok-counted-clause-ok
 returns-in-Ok-counted-clause-ok g c =

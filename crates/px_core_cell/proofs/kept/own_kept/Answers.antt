@@ -3,7 +3,7 @@ use Rattle.px_annals.specs.declared.entry.CoreEntry.{CoreEntry}
 use Rattle.px_annals.specs.History.{noted}
 use Rattle.px_core_cell.specs.Cell.{logged_of}
 use Rattle.px_core_cell.proofs.Doing.{own_done, own_owes}
-use Rattle.px_core_cell.proofs.parts.own_step.Goals as goal
+use Rattle.px_core_cell.proofs.kept.own_kept.Goals as goal
 
 pub returns-in-Ok-clause-gives : goal.returns-in-Ok-clause-gives
 returns-in-Ok-clause-gives g c =

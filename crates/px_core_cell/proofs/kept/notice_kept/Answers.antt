@@ -2,7 +2,7 @@ use Rattle.std.proofs.Common.{◌≡◌, ◌+◌, ◌∙◌, ℕ, Some, None, ap
 use Rattle.px_annals.specs.History.{noted}
 use Rattle.px_core_cell.specs.Cell.{logged_of, ends_of}
 use Rattle.px_core_cell.proofs.Doing.{Collects, notice_done}
-use Rattle.px_core_cell.proofs.parts.notice_step.Goals as goal
+use Rattle.px_core_cell.proofs.kept.notice_kept.Goals as goal
 
 pub returns-in-Ok-clause-gives : goal.returns-in-Ok-clause-gives
 returns-in-Ok-clause-gives g c =

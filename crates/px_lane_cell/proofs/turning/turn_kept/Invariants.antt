@@ -1,0 +1,4 @@
+use Rattle.px_lane_cell.proofs.turning.turn_kept.Given as goal
+
+abbrev pub ghosts-counted : goal.ghosts-counted
+ghosts-counted g a = record { name = a.blank.name; parts = a.blank.parts }
