@@ -1,5 +1,6 @@
--- A host: where the header comes from and the links, what it makes for each sink and for the core, and what it takes back. Own.
-use Rattle.std.specs.Prelude.{◌≡◌, ℕ, ◌+◌, ◌-◌, ◌<◌, ◌≤◌, false, List, [], Option, None, Some, IfSome, Result, Ok, Err}
+-- A host: where the header comes from and the links, what it makes for each sink and for the core, and what it takes back; and the links that it
+-- dials. Own.
+use Rattle.std.specs.Prelude.{◌≡◌, ℕ, ◌+◌, ◌-◌, ◌^◌, ◌<◌, ◌≤◌, min, false, List, [], length, Option, None, Some, IfSome, Result, Ok, Err}
 use Rattle.std.specs.Option.{option_map}
 use Rattle.px_types.specs.declared.ids.SinkId.{SinkId}
 use Rattle.px_types.specs.Faults.{Rose}
@@ -10,9 +11,12 @@ use Rattle.px_ends.specs.declared.host.HeaderRead.{HeaderRead}
 use Rattle.px_ends.specs.declared.host.HeaderRead.TheVariants as read
 use Rattle.px_ends.specs.declared.host.Accepted.{Accepted}
 use Rattle.px_ends.specs.declared.host.Accepted.TheVariants as accepted
+use Rattle.px_ends.specs.declared.host.Connected.{Connected}
+use Rattle.px_ends.specs.declared.host.Connected.TheVariants as connected
 use Rattle.px_ends.specs.declared.host.HostFault.{HostFault}
 use Rattle.px_ends.specs.declared.host.HostFault.TheVariants as fault
 use Rattle.px_ends.specs.Visible.{WhereVisible}
+use Rattle.px_ends.specs.Links.{LinkCounts, no_counts}
 use Rattle.px_ends.specs.Device.{DeviceState}
 
 -- what a host took back of a sink
@@ -180,3 +184,56 @@ module _ {D R C : Type 0} where
   TakesCore faulty full recorder before after =
       Counts faulty before.recorder_faults after.recorder_faults × Counts full before.fulls after.fulls
       × (after ≡ took_core after.recorder_faults after.fulls recorder before)
+
+  -- ---- what it dials
+
+  -- a connect with this answer
+  abbrev pub Connects : {L : Type 0} → Connected L → HostState D R C → HostState D R C → Type 0
+  Connects (connected.Link link) before after = after ≡ before
+  Connects connected.NoMemory before after = after ≡ before
+  Connects connected.Failed before after = FailsOnce before after
+
+-- a count rose by a number, or is at its last value
+pub record RoseBy (more before now : ℕ) : Type 0 where
+  pub later : before ≤ now
+  pub least : min (before + more) (2 ^ 64 - 1) ≤ now
+  pub most : now ≤ before + more
+
+-- the links that a host dialled, each of type L
+pub record DialState (L : Type 0) : Type 0 where
+  -- how many it gave
+  pub given : ℕ
+  -- of those that it took back: how often their calls failed, answered the end, or found them not ready
+  pub link_faults : ℕ
+  pub ends : ℕ
+  pub not_yets : ℕ
+  -- those that it took back, in order and where visible
+  pub hung : Option (List L)
+
+module _ {L : Type 0} where
+  -- it gave more links than it took back, where visible
+  abbrev pub HasDialled : DialState L → Type 0
+  HasDialled d = IfSome d.hung (λ links. length links < d.given)
+
+  abbrev pub one_given : DialState L → DialState L
+  one_given d = record d { given = d.given + 1 }
+
+  -- a connect with this answer: a link none of whose calls was counted, which can be taken back, or no change
+  abbrev pub Dials : (L → LinkCounts) → Connected L → DialState L → DialState L → Type 0
+  Dials counts (connected.Link link) before after = (counts link ≡ no_counts) × (after ≡ one_given before) × HasDialled after
+  Dials counts connected.NoMemory before after = after ≡ before
+  Dials counts connected.Failed before after = after ≡ before
+
+  abbrev pub took_link : ℕ → ℕ → ℕ → L → DialState L → DialState L
+  took_link link_faults ends not_yets link d = record d {
+    link_faults = link_faults;
+    ends = ends;
+    not_yets = not_yets;
+    hung = noted link d.hung;
+  }
+
+  -- it takes back a link with these counts
+  abbrev pub HangsUp : LinkCounts → L → DialState L → DialState L → Type 0
+  HangsUp counts link before after =
+      RoseBy counts.faults before.link_faults after.link_faults × RoseBy counts.ends before.ends after.ends × RoseBy counts.not_yets before.not_yets after.not_yets
+      × (after ≡ took_link after.link_faults after.ends after.not_yets link before)

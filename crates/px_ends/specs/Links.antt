@@ -14,6 +14,10 @@ pub record LinkCounts : Type 0 where
   pub ends : ℕ
   pub not_yets : ℕ
 
+-- the counts before any call
+abbrev pub no_counts : LinkCounts
+no_counts = record { faults = 0; ends = 0; not_yets = 0 }
+
 abbrev pub RecvGives : Recv → List ℕ → Option (List ℕ) → Option (List ℕ) → Type 0
 RecvGives (recv.Bytes n) buffer old new = Departs n buffer old new
 RecvGives recv.End buffer old new = IsAtEnd old × (new ≡ old)

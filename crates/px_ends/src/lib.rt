@@ -26,7 +26,7 @@ pub use bytes::{Got, Sink, Source, Took};
 pub use calls::Calls;
 pub use clock::Clock;
 pub use device::{Device, DeviceFault, DeviceShape};
-pub use host::{Accepted, HeaderRead, Host, HostFault, ServeOptions};
+pub use host::{Accepted, Connected, HeaderRead, Host, HostFault, ServeOptions};
 pub use link::{Link, Outlet, Recv, Sent};
 pub use memory_clock::{MemClock, Moments};
 pub use memory_device::MemDevice;

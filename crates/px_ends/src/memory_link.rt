@@ -76,6 +76,27 @@ impl MemLink {
         })
     }
 
+    /// How often its calls failed.
+    pub fn faults(&self) -> u64
+        ensures { result ≡ self.now.faults }
+    {
+        self.faults
+    }
+
+    /// How often its calls answered the end.
+    pub fn ends(&self) -> u64
+        ensures { result ≡ self.now.ends }
+    {
+        self.ends
+    }
+
+    /// How often its calls found it not ready.
+    pub fn not_yets(&self) -> u64
+        ensures { result ≡ self.now.not_yets }
+    {
+        self.not_yets
+    }
+
     /// The bytes that were sent.
     pub fn sent(&self) -> &[u8]
         ensures { result.now ≡ self.now.sent }

@@ -3,7 +3,8 @@ ghost use Rattle.std.specs.Prelude.{◌≡◌};
 ghost use Rattle.px_types.specs.Faults.{Rose};
 
 use crate::{
-    Accepted, DeviceShape, HeaderRead, Host, HostFault, MemDevice, MemLink, NoOutlet, ServeOptions,
+    Accepted, Connected, DeviceShape, HeaderRead, Host, HostFault, MemDevice, MemLink, NoOutlet,
+    ServeOptions,
 };
 use px_annals::NoRecorder;
 use px_types::SinkId;
@@ -37,7 +38,7 @@ impl NoHost {
 }
 
 impl Host for NoHost {
-    ghost use Rattle.std.specs.Prelude.{None};
+    ghost use Rattle.std.specs.Prelude.{None, Some, []};
 
     type L = MemLink;
 
@@ -62,6 +63,8 @@ impl Host for NoHost {
       parts = None;
       core_recorders = None;
     } };
+
+    ghost dialled = { λ _. record { given = 0; link_faults = 0; ends = 0; not_yets = 0; hung = Some [] } };
 
     fn start(&mut self, _alloc: Global, _options: &ServeOptions) -> HeaderRead {
         self.fail();
@@ -109,4 +112,12 @@ impl Host for NoHost {
     }
 
     fn retire_core(&mut self, _recorder: NoRecorder) {}
+
+    fn connect(&mut self, _alloc: Global, _path: &[u8]) -> Connected<MemLink> {
+        self.fail();
+        Connected::Failed
+    }
+
+    // It gave no link.
+    fn hang_up(&mut self, _link: MemLink) {}
 }

@@ -1,7 +1,7 @@
 // The socket that a host listens at.
 ghost use Rattle.std.specs.Prelude.{◌≡◌, IfOk, string_bytes};
 
-use crate::Connected;
+use crate::UnixLink;
 use crate::faults::or_print;
 use std::alloc::Global;
 use std::io::{Eprint, ErrorKind};
@@ -61,11 +61,11 @@ fn listen<R: Files + Net>(rt: &R, path: &str) -> io::Result<UnixListener> {
 }
 
 // Accepts a client; no call of its link waits long.
-fn connected(listener: &UnixListener) -> io::Result<Connected> {
+fn connected(listener: &UnixListener) -> io::Result<UnixLink> {
     let (stream, _) = listener.accept()?;
     stream.set_read_timeout(Some(Duration::from_millis(PATIENCE)))?;
     stream.set_write_timeout(Some(Duration::from_millis(HASTE)))?;
-    Ok(Connected::new(stream))
+    Ok(UnixLink::new(stream))
 }
 
 impl Listening {
@@ -87,7 +87,7 @@ impl Listening {
     }
 
     /// Accepts a client.
-    pub fn accept<R: Eprint>(&self, rt: &R) -> io::Result<Connected> {
+    pub fn accept<R: Eprint>(&self, rt: &R) -> io::Result<UnixLink> {
         let accepted = connected(&self.listener);
         or_print(rt, "cannot accept a client at", self.path(), accepted)
     }

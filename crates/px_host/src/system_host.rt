@@ -5,11 +5,12 @@ ghost use Rattle.px_ends.specs.Host.{IsNewRecorder};
 ghost use Rattle.px_host.specs.History.{visible_in, fulls_of};
 ghost use Rattle.px_host.specs.SoundFile.{file_path};
 
+use crate::dialling::dial;
 use crate::faults::or_print;
 use crate::listening::Listening;
-use crate::{Connected, History, Outgoing, SoundFile, SystemClock};
+use crate::{History, Outgoing, SoundFile, SystemClock, UnixLink};
 use px_annals::{CoreEntry, Entry, LaneEntry, MemRecorder};
-use px_ends::{Accepted, DeviceShape, HeaderRead, Host, HostFault, ServeOptions};
+use px_ends::{Accepted, Connected, DeviceShape, HeaderRead, Host, HostFault, ServeOptions};
 use px_paced::PacedSink;
 use px_types::limits::{MAX_HISTORY_BYTES, MAX_HISTORY_ENTRIES};
 use px_types::{Mem, SinkId, Text};
@@ -19,8 +20,9 @@ use std::io::{Eprint, ErrorKind};
 use std::rt::{Clock, Files, Net};
 use std::{fs, io};
 
-/// A host that listens at a Unix socket, makes a device for each sink over a file, and stores histories in memory or not at all. It prints each fault
-/// of its own on standard error when it meets it, in a line with the path and the system's cause. A link's faults are its client's, and aren't printed.
+/// A host that listens at a Unix socket, makes a device for each sink over a file, and stores histories in memory or not at all. It dials servers at
+/// Unix sockets: a call of a link that it dialled waits 1 ms at most. It prints each fault of its own on standard error when it meets it, in a line with
+/// the path and the system's cause. A link's faults aren't printed.
 #[derive(Drop)]
 pub struct SystemHost<S: Drop> {
     rt: S,
@@ -33,6 +35,10 @@ pub struct SystemHost<S: Drop> {
     overs: u64,
     device_faults: u64,
     fulls: u64,
+    dialled: u64,
+    link_faults: u64,
+    ends: u64,
+    not_yets: u64,
 }
 
 // A fault of what the host was given.
@@ -72,6 +78,14 @@ fn begin<R: Files + Net + Eprint + AllocGlobal>(
     Ok((Text::from_vec(bytes), Listening::at(rt, alloc, socket)?))
 }
 
+// Connects to the server at the socket `path`.
+fn dialled<R: Net + Eprint>(rt: &R, path: &[u8]) -> io::Result<UnixLink>
+    ensures { IfOk result (λ link. (link.faults ≡ 0) × (link.ends ≡ 0) × (link.not_yets ≡ 0)) }
+{
+    let path = or_print(rt, "cannot connect to", "the socket", text(path))?;
+    dial(rt, path)
+}
+
 // The path of the socket.
 fn path(listening: &Option<Listening>) -> &str {
     match listening {
@@ -81,7 +95,7 @@ fn path(listening: &Option<Listening>) -> &str {
 }
 
 // Accepts a client. A host that hasn't been started fails.
-fn next_client<R: Eprint>(rt: &R, listening: &Option<Listening>) -> io::Result<Connected> {
+fn next_client<R: Eprint>(rt: &R, listening: &Option<Listening>) -> io::Result<UnixLink> {
     match listening {
         Some(listening) => listening.accept(rt),
         None => {
@@ -143,7 +157,8 @@ fn history<E: Entry + Drop>(alloc: Global, memory: bool) -> Mem<History<E>>
 impl<S: Drop> SystemHost<S> {
     /// A host that hasn't been started. Takes no memory.
     pub fn new(alloc: Global, rt: S) -> SystemHost<S>
-        ensures { (result.links ≡ 0) × (result.faults ≡ 0) × (result.overs ≡ 0) × (result.device_faults ≡ 0) × (result.fulls ≡ 0) }
+        ensures counts { (result.links ≡ 0) × (result.faults ≡ 0) × (result.overs ≡ 0) × (result.device_faults ≡ 0) × (result.fulls ≡ 0) }
+        ensures dialled { (result.dialled ≡ 0) × (result.link_faults ≡ 0) × (result.ends ≡ 0) × (result.not_yets ≡ 0) }
     {
         SystemHost {
             rt,
@@ -156,6 +171,10 @@ impl<S: Drop> SystemHost<S> {
             overs: 0,
             device_faults: 0,
             fulls: 0,
+            dialled: 0,
+            link_faults: 0,
+            ends: 0,
+            not_yets: 0,
         }
     }
 
@@ -172,7 +191,7 @@ impl<S: Files<File = File> + Net + Clock + Eprint + AllocGlobal + Copy + Drop + 
     for SystemHost<S> {
     ghost use Rattle.std.specs.Prelude.{None};
 
-    type L = Connected;
+    type L = UnixLink;
 
     type O = Outgoing;
 
@@ -196,6 +215,8 @@ impl<S: Files<File = File> + Net + Clock + Eprint + AllocGlobal + Copy + Drop + 
       core_recorders = None;
     } };
 
+    ghost dialled = { λ h. record { given = h.dialled; link_faults = h.link_faults; ends = h.ends; not_yets = h.not_yets; hung = None } };
+
     fn start(&mut self, alloc: Global, options: &ServeOptions) -> HeaderRead {
         let Ok(out) = Text::copied(alloc, options.out.as_slice()) else {
             return HeaderRead::NoMemory;
@@ -218,7 +239,7 @@ impl<S: Files<File = File> + Net + Clock + Eprint + AllocGlobal + Copy + Drop + 
         }
     }
 
-    fn accept(&mut self, _alloc: Global) -> Accepted<Connected> {
+    fn accept(&mut self, _alloc: Global) -> Accepted<UnixLink> {
         if self.links >= self.accept {
             self.overs = self.overs.saturating_add(1);
             return Accepted::Over;
@@ -238,7 +259,7 @@ impl<S: Files<File = File> + Net + Clock + Eprint + AllocGlobal + Copy + Drop + 
         }
     }
 
-    fn outlet(&mut self, link: &mut Connected) -> Option<Outgoing> {
+    fn outlet(&mut self, link: &mut UnixLink) -> Option<Outgoing> {
         let (what, path) = (
             "cannot send from other threads to a client at",
             path(&self.listening),
@@ -306,5 +327,30 @@ impl<S: Files<File = File> + Net + Clock + Eprint + AllocGlobal + Copy + Drop + 
         if recorder.fulls() > 0 {
             self.fulls = self.fulls.saturating_add(1);
         }
+    }
+
+    fn connect(&mut self, _alloc: Global, path: &[u8]) -> Connected<UnixLink> {
+        let Some(given) = self.dialled.checked_add(1) else {
+            return Connected::NoMemory;
+        };
+        match dialled(&self.rt, path) {
+            Ok(link) => {
+                self.dialled = given;
+                Connected::Link(link)
+            }
+            Err(error) => {
+                if error.kind() == ErrorKind::OutOfMemory {
+                    return Connected::NoMemory;
+                }
+                self.fail();
+                Connected::Failed
+            }
+        }
+    }
+
+    fn hang_up(&mut self, link: UnixLink) {
+        self.link_faults = self.link_faults.saturating_add(link.faults());
+        self.ends = self.ends.saturating_add(link.ends());
+        self.not_yets = self.not_yets.saturating_add(link.not_yets());
     }
 }

@@ -1,2 +1,3 @@
 pub mod MemoryHost
 pub mod SharedLink
+pub mod HostLink

@@ -1,15 +1,19 @@
 // The host in memory.
 ghost use Rattle.std.specs.Prelude.{◌≡◌, ◌≤◌, Some, [], ◌∷◌, ◌++◌, length, not, IfOk, OnOk, OnErr, IsFalse, IsTrue};
 ghost use Rattle.px_types.specs.Faults.{Rose};
-ghost use Rattle.px_ends.specs.Host.{Starts, Accepts, Makes, IsNewDevice, IsNewRecorder, one_device, one_recorder, one_core, FailsOnce, HasPart, HasCore, TakesPart, TakesCore};
+ghost use Rattle.px_ends.specs.Host.{Starts, Accepts, Makes, IsNewDevice, IsNewRecorder, one_device, one_recorder, one_core, FailsOnce, HasPart, HasCore, TakesPart, TakesCore, Connects, Dials, HasDialled, HangsUp};
 ghost use Rattle.px_ends.specs.Device.{IsShape};
 ghost use Rattle.px_ends.specs.MemoryDevice.{new_memory_device, state_of};
-ghost use Rattle.px_mem_host.specs.MemoryHost.{new_state, is_failing, called, StartFails, HandsOut, FailsAs, MakesAs};
+ghost use Rattle.px_mem_host.specs.HostLink.{counts_of};
+ghost use Rattle.px_mem_host.specs.MemoryHost.{new_state, new_dial, is_failing, called, dialled_by, StartFails, HandsOut, GivesDialled, FailsAs, MakesAs};
 
-use crate::{LinkPlan, LinkPlans, Retired, SharedLink, Taken};
+use crate::dialling::Dialling;
+use crate::making::{add_copy, running};
+use crate::{DialPlan, HostLink, LinkPlan, LinkPlans, Retired, SharedLink, Taken};
 use px_annals::{CoreEntry, LaneEntry, MemRecorder};
 use px_ends::{
-    Accepted, Calls, DeviceShape, HeaderRead, Host, HostFault, MemDevice, NoOutlet, ServeOptions,
+    Accepted, Calls, Connected, DeviceShape, HeaderRead, Host, HostFault, MemDevice, NoOutlet,
+    ServeOptions,
 };
 use px_types::{Mem, NoMemory, SinkId, Text};
 use std::alloc::Global;
@@ -17,8 +21,8 @@ use std::collections::VecDeque;
 use std::marker::Model;
 use std::sync::Wait;
 
-/// A host that has its header and its links, and stores what it takes back. It makes devices that consume by themselves, and histories in memory. Its
-/// listed calls fail. Own.
+/// A host that has its header and its links, also those that it dials, and stores what it takes back. It makes devices that consume by themselves, and
+/// histories in memory. Its listed calls fail. Own.
 #[derive(Drop)]
 pub struct MemHost<R: Wait> {
     rt: R,
@@ -41,16 +45,18 @@ pub struct MemHost<R: Wait> {
     started: Vec<ServeOptions>,
     parts: Vec<Retired>,
     core_recorders: Vec<MemRecorder<CoreEntry>>,
+    dialling: Dialling<R>,
 }
 
 impl<R: Wait> Model for MemHost<R> {
     ghost use Rattle.std.specs.Prelude.{◌+◌, ◌≤◌, Some, length, vec_capacity};
     ghost use Rattle.px_mem_host.specs.MemoryHost.{MemoryHost};
 
-    ghost Value = { MemoryHost };
+    ghost Value = { MemoryHost R };
 
     ghost view = { λ h. record {
       links = h.links.items;
+      dials = h.dialling.dials;
       each = h.each;
       total = h.total;
       limit = record { entries = h.entries; bytes = h.bytes };
@@ -69,43 +75,12 @@ impl<R: Wait> Model for MemHost<R> {
         parts = Some h.parts.items;
         core_recorders = Some h.core_recorders.items;
       };
+      dialled = h.dialling.state;
     } };
 
     ghost invariant = { λ h. (h.given + length h.links.items ≤ 65535)
         × (length h.parts.items + h.devices ≤ vec_capacity h.parts)
         × (length h.core_recorders.items + h.cores ≤ vec_capacity h.core_recorders) };
-}
-
-// A copy of options.
-fn copied(alloc: Global, options: &ServeOptions) -> Mem<ServeOptions>
-    ensures { IfOk result (λ copy. copy ≡ options.now) }
-{
-    Ok(ServeOptions {
-        header: Text::copied(alloc, options.header.as_slice())?,
-        socket: Text::copied(alloc, options.socket.as_slice())?,
-        out: Text::copied(alloc, options.out.as_slice())?,
-        accept: options.accept,
-        memory: options.memory,
-    })
-}
-
-// Appends a copy of options. Without memory nothing is added.
-fn add_copy(alloc: Global, options: &ServeOptions, list: &mut Vec<ServeOptions>) -> Mem<()>
-    ensures ok { OnOk result (list.new.items ≡ list.old.items ++ options.now ∷ []) }
-    ensures err { OnErr result (list.new.items ≡ list.old.items) }
-{
-    list.push(copied(alloc, options)?)?;
-    Ok(())
-}
-
-// A device that consumes by itself.
-fn running(alloc: Global, shape: &DeviceShape, each: u32, total: u32) -> Mem<MemDevice>
-    requires { IsShape shape.now }
-    ensures { IfOk result (λ device. device ≡ record (new_memory_device shape.now) { each = each; left = total }) }
-{
-    let mut device = MemDevice::new(alloc, shape)?;
-    device.run_on(each, total)?;
-    Ok(device)
 }
 
 impl<R: Wait + Drop> MemHost<R> {
@@ -126,12 +101,14 @@ impl<R: Wait + Drop> MemHost<R> {
         requires { length links ≤ 65535 }
         ensures { IfOk result (λ h. h ≡ record {
           links = links;
+          dials = [];
           each = each;
           total = total;
           limit = record { entries = entries; bytes = bytes };
           failing = failing;
           calls = 0;
           visible = new_state header;
+          dialled = new_dial;
         }) }
     {
         links.clear(&rt, alloc)?;
@@ -156,7 +133,22 @@ impl<R: Wait + Drop> MemHost<R> {
             started: Vec::new(alloc),
             parts: Vec::new(alloc),
             core_recorders: Vec::new(alloc),
+            dialling: Dialling::new(alloc),
         })
+    }
+
+    /// Sets the links that it dials from now on, in order. A connect after the last of them fails. Takes no memory.
+    pub fn set_dials(&mut self, dials: Vec<DialPlan>)
+        ensures { self.new ≡ record self.old { dials = dials.items } }
+    {
+        self.dialling.set(dials);
+    }
+
+    /// The links that it took back, in order.
+    pub fn hung(&self) -> &[HostLink<R>]
+        ensures { self.now.dialled.hung ≡ Some result.now }
+    {
+        self.dialling.hung()
     }
 
     /// What it was given and took back.
@@ -172,6 +164,14 @@ impl<R: Wait + Drop> MemHost<R> {
         }
     }
 
+    // Counts one more fault.
+    fn fail(&mut self)
+        ensures fails { FailsOnce self.old.visible self.new.visible }
+        ensures same { self.new ≡ record self.old { visible = self.new.visible } }
+    {
+        self.faults = self.faults.saturating_add(1);
+    }
+
     // Counts one more call, and returns whether it fails, which is a fault.
     fn fails(&mut self) -> bool
         ensures listed { result ≡ is_failing self.old }
@@ -181,7 +181,7 @@ impl<R: Wait + Drop> MemHost<R> {
     {
         self.calls = self.calls.saturating_add(1);
         if self.failing.has(self.calls) {
-            self.faults = self.faults.saturating_add(1);
+            self.fail();
             return true;
         }
         false
@@ -189,7 +189,7 @@ impl<R: Wait + Drop> MemHost<R> {
 }
 
 impl<R: Wait + Copy + Drop + Send> Host for MemHost<R> {
-    type L = SharedLink<R>;
+    type L = HostLink<R>;
 
     type O = NoOutlet;
 
@@ -200,6 +200,8 @@ impl<R: Wait + Copy + Drop + Send> Host for MemHost<R> {
     type C = MemRecorder<CoreEntry>;
 
     ghost now = { λ h. h.visible };
+
+    ghost dialled = { λ h. h.dialled };
 
     fn start(&mut self, alloc: Global, options: &ServeOptions) -> HeaderRead
         ensures host { Starts result options.now self.old.visible self.new.visible }
@@ -221,7 +223,7 @@ impl<R: Wait + Copy + Drop + Send> Host for MemHost<R> {
         }
     }
 
-    fn accept(&mut self, _alloc: Global) -> Accepted<SharedLink<R>>
+    fn accept(&mut self, _alloc: Global) -> Accepted<HostLink<R>>
         ensures host { Accepts result self.old.visible self.new.visible }
         ensures gives { HandsOut result (is_failing self.old) self.old.links self.new.links }
         ensures after { self.new ≡ called self.new.links self.new.visible self.old }
@@ -232,7 +234,7 @@ impl<R: Wait + Copy + Drop + Send> Host for MemHost<R> {
         match self.links.pop_front() {
             Some(plan) => {
                 self.given += 1;
-                Accepted::Link(SharedLink::new(self.rt, plan))
+                Accepted::Link(HostLink::Client(SharedLink::new(self.rt, plan)))
             }
             None => {
                 self.overs = self.overs.saturating_add(1);
@@ -242,7 +244,7 @@ impl<R: Wait + Copy + Drop + Send> Host for MemHost<R> {
     }
 
     // No sending half: what a client was sent all went through its link.
-    fn outlet(&mut self, _link: &mut SharedLink<R>) -> Option<NoOutlet> {
+    fn outlet(&mut self, _link: &mut HostLink<R>) -> Option<NoOutlet> {
         None
     }
 
@@ -364,5 +366,30 @@ impl<R: Wait + Copy + Drop + Send> Host for MemHost<R> {
         }
         self.cores -= 1;
         self.core_recorders.push(recorder).unwrap();
+    }
+
+    fn connect(&mut self, alloc: Global, _path: &[u8]) -> Connected<HostLink<R>>
+        ensures host { Connects result self.old.visible self.new.visible }
+        ensures dialled { Dials counts_of result self.old.dialled self.new.dialled }
+        ensures gives { GivesDialled result (is_failing self.old) self.old.dials self.new.dials }
+        ensures after { self.new ≡ dialled_by self.new.dials self.new.dialled (called self.old.links self.new.visible self.old) }
+    {
+        if self.fails() {
+            return Connected::Failed;
+        }
+        let answer = self.dialling.connect(alloc);
+        if matches!(answer, Connected::Failed) {
+            self.fail();
+        }
+        answer
+    }
+
+    fn hang_up(&mut self, link: HostLink<R>)
+        requires { HasDialled self.old.dialled }
+        ensures host { self.new.visible ≡ self.old.visible }
+        ensures dialled { HangsUp (counts_of link) link self.old.dialled self.new.dialled }
+        ensures after { self.new ≡ record self.old { dialled = self.new.dialled } }
+    {
+        self.dialling.hang_up(link);
     }
 }

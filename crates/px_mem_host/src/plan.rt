@@ -1,7 +1,8 @@
 // The settings of a link of a host in memory.
-ghost use Rattle.std.specs.Prelude.{◌≡◌};
+ghost use Rattle.std.specs.Prelude.{◌≡◌, IfOk};
+ghost use Rattle.px_mem_host.specs.HostLink.{new_dialled};
 
-use px_ends::Calls;
+use px_ends::{Calls, MemLink};
 use px_types::{Mem, NoMemory, Text};
 use std::alloc::Global;
 use std::marker::Model;
@@ -26,6 +27,25 @@ impl LinkPlan {
         let room = Vec::with_capacity(alloc, self.room)?;
         *self.sent.lock(rt) = Text::from_vec(room);
         Ok(())
+    }
+}
+
+/// A link to be dialled: the bytes that it gives before the end, how many it takes, and the numbers of its calls that find it not ready and of those
+/// that fail.
+#[derive(Drop)]
+pub struct DialPlan {
+    pub bytes: Text,
+    pub room: usize,
+    pub late: Calls,
+    pub fail: Calls,
+}
+
+impl DialPlan {
+    // The link of these settings.
+    pub(crate) fn into_link(self, alloc: Global) -> Mem<MemLink>
+        ensures { IfOk result (λ link. link ≡ new_dialled self) }
+    {
+        MemLink::new(alloc, self.bytes, self.room, self.late, self.fail)
     }
 }
 

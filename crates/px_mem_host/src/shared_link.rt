@@ -81,6 +81,27 @@ impl<R: Wait> SharedLink<R> {
             not_yets: 0,
         }
     }
+
+    /// How often its calls failed.
+    pub fn faults(&self) -> u64
+        ensures { result ≡ self.now.faults }
+    {
+        self.faults
+    }
+
+    /// How often its calls answered the end.
+    pub fn ends(&self) -> u64
+        ensures { result ≡ self.now.ends }
+    {
+        self.ends
+    }
+
+    /// How often its calls found it not ready.
+    pub fn not_yets(&self) -> u64
+        ensures { result ≡ self.now.not_yets }
+    {
+        self.not_yets
+    }
 }
 
 impl<R: Wait> Link for SharedLink<R> {

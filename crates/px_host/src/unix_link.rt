@@ -1,4 +1,4 @@
-// A client's connection over a socket, and its sending half.
+// A connection over a socket, to a client or to a server, and its sending half.
 ghost use Rattle.std.specs.Prelude.{◌≡◌, ◌<◌, length, None};
 ghost use Rattle.px_ends.specs.Links.{SendTakes};
 
@@ -10,7 +10,7 @@ use std::os::unix::net::UnixStream;
 
 /// A link over a socket. A call that would block, on a socket that doesn't block or only for a time, finds the link not ready.
 #[derive(Drop)]
-pub struct Connected {
+pub struct UnixLink {
     stream: UnixStream,
     faults: u64,
     ends: u64,
@@ -46,17 +46,38 @@ fn send(stream: &mut UnixStream, bytes: &[u8]) -> Sent
     }
 }
 
-impl Connected {
+impl UnixLink {
     /// A link over a socket, none of whose calls has failed. Takes no memory.
-    pub fn new(stream: UnixStream) -> Connected
+    pub fn new(stream: UnixStream) -> UnixLink
         ensures { (result.faults ≡ 0) × (result.ends ≡ 0) × (result.not_yets ≡ 0) }
     {
-        Connected {
+        UnixLink {
             stream,
             faults: 0,
             ends: 0,
             not_yets: 0,
         }
+    }
+
+    /// How often its calls failed.
+    pub fn faults(&self) -> u64
+        ensures { result ≡ self.now.faults }
+    {
+        self.faults
+    }
+
+    /// How often its calls answered the end.
+    pub fn ends(&self) -> u64
+        ensures { result ≡ self.now.ends }
+    {
+        self.ends
+    }
+
+    /// How often its calls found it not ready.
+    pub fn not_yets(&self) -> u64
+        ensures { result ≡ self.now.not_yets }
+    {
+        self.not_yets
     }
 
     /// The sending half of the link. `None` where the system has no descriptor to spare. Takes no memory.
@@ -74,7 +95,7 @@ impl Connected {
     }
 }
 
-impl Link for Connected {
+impl Link for UnixLink {
     ghost use Rattle.std.specs.Prelude.{None};
 
     ghost left = { λ _. None };
