@@ -1,3 +1,4 @@
+mod dialling;
 mod host;
 mod late;
 mod paced;

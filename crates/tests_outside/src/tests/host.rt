@@ -1,5 +1,5 @@
 use px_ends::{Clock, Link, Outlet, Recv, Sent};
-use px_host::{Connected, SystemClock};
+use px_host::{SystemClock, UnixLink};
 use std::os::unix::net::UnixStream;
 use std::thread::Threads;
 use std::{io, thread};
@@ -52,11 +52,11 @@ fn exchange<R: Threads>(rt: &R, near: UnixStream, far: UnixStream) -> bool {
     let (first, second) = thread::join(
         rt,
         move || {
-            let mut link = Connected::new(near);
+            let mut link = UnixLink::new(near);
             sends(&mut link) && receives(&mut link)
         },
         move || {
-            let mut link = Connected::new(far);
+            let mut link = UnixLink::new(far);
             let all = receives(&mut link) && sends(&mut link);
             all && link.recv(&mut [0u8; 1]) == Recv::End
         },
@@ -73,8 +73,8 @@ fn a_mebibyte_goes_both_ways_through_a_socket(rt: HostRuntime) -> io::Result<()>
 
 // What a link's outlet sends comes to its peer, and once the outlet is shut both find the end.
 fn goes_out(near: UnixStream, far: UnixStream) -> bool {
-    let mut link = Connected::new(near);
-    let mut peer = Connected::new(far);
+    let mut link = UnixLink::new(near);
+    let mut peer = UnixLink::new(far);
     let mut buffer = [0u8; 4];
     let Some(mut outlet) = link.outlet() else {
         return false;
