@@ -5,7 +5,7 @@ use Rattle.px_state.specs.declared.tables.Tables.{Tables}
 use Rattle.px_names.specs.InputLists.{RoomyLists}
 use Rattle.px_input_table.specs.InputTable.{RoomyInputs}
 use Rattle.px_state.specs.Tables.{HasRoom, HavePlaces}
-use Rattle.px_state.proofs.Waiting.{fewer_places}
+use Rattle.px_state.proofs.Waiting.{fewer_places, many_places}
 
 -- a place less is there too
 pub less_room : {P : Type 0} (n : ℕ) (t : Tables P) → HasRoom (n + 1) t → HasRoom n t
@@ -62,3 +62,7 @@ room_left n old new still listed waits delays posted had = record {
 pub room_beside : {P : Type 0} (n : ℕ) (old new : Tables P) → new.inputs ≡ old.inputs → new.lists ≡ old.lists → new.waiting ≡ old.waiting → new.delayed ≡ old.delayed → new.posted ≡ old.posted → HasRoom (n + 1) old → HasRoom n new
 room_beside n old new inputs lists waiting delayed posted had =
     room_left n old new (same_roomy old.inputs new.inputs inputs) (same_listed old.lists new.lists lists) (same_waits old new waiting) (same_delays old new delayed) (subst (λ q. HavePlaces n q.items) (sym posted) (fewer_places n old.posted.items had.posted)) had
+
+-- several places less
+pub room_kept : {P : Type 0} (n more : ℕ) (t : Tables P) → HasRoom (n + more) t → HasRoom n t
+room_kept n more t had = record { places = omega (arith, had.places); streams = omega (arith, had.streams); lists = omega (arith, had.lists); waiting = omega (arith, had.waiting); delayed = omega (arith, had.delayed); posted = many_places n more t.posted.items had.posted }

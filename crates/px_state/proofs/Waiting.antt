@@ -123,3 +123,7 @@ none_left (Some x) old new whole none = absurd (search rules)
 pub one_less : {A : Type 0} (first : Option A) (old new : ℕ) → new + length (option_to_list first) ≡ old → IsSome first → new + 1 ≤ old
 one_less None old new whole some = absurd (search rules)
 one_less (Some x) old new whole some = omega (arith, whole)
+
+pub many_places : {P Z : Type 0} (n more : ℕ) (queues : List (VecDeque (Msg P) Z)) → HavePlaces (n + more) queues → HavePlaces n queues
+many_places n more [] have = tt
+many_places n more (x ∷ queues) have = (omega (arith, have.0), many_places n more queues have.1)

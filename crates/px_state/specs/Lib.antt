@@ -3,6 +3,7 @@ pub mod Delayed
 pub mod State
 pub mod Tables
 pub mod Change
+pub mod Release
 pub mod Families
 pub mod Outcome
 pub mod Out

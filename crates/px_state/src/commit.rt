@@ -1,12 +1,10 @@
 //! Makes changes, one after the other, in room that was reserved for them.
 
-ghost use Rattle.std.specs.Prelude.{◌≡◌, ◌≤◌, ◌+◌, [], ℕ, length, vec_capacity, Some, IfOk, OnOk, OnErr};
-ghost use Rattle.std.specs.List.{find};
+ghost use Rattle.std.specs.Prelude.{◌≡◌, ◌≤◌, ◌+◌, ◌∷◌, [], ℕ, length, vec_capacity, Some, IfOk, OnOk, OnErr};
 ghost use Rattle.px_outcome.specs.declared.change.Change.TheVariants.{Made, Described, Leaves, Moves, Arrives, Released, Posted, Regrouped, Asked, Answered, Gone};
 ghost use Rattle.px_header.specs.HeaderRules.{AreSinks};
 ghost use Rattle.px_subscribe.specs.Moments.{AreShown};
-ghost use Rattle.px_state.specs.Change.{changed, committed, inputs_noted, posting, delaying, posting_to_input, ending, departs, arrives, releasing};
-ghost use Rattle.px_state.specs.Delayed.{is_of};
+ghost use Rattle.px_state.specs.Change.{changed, committed, inputs_noted, posting, delaying, posting_to_input, ending, departs, arrives};
 ghost use Rattle.px_state.specs.Families.{IsOfInput};
 ghost use Rattle.px_state.specs.State.{input_of};
 ghost use Rattle.px_state.specs.Answered.{answered, answer_effects};
@@ -16,6 +14,7 @@ use crate::change::CoreChange;
 use crate::delayed::Delayed;
 use crate::effects::Effects;
 use crate::events::answer_effects;
+use crate::release::{release, take_releases};
 use crate::tables::Tables;
 use crate::{awaited, clients, delayed, queues};
 use px_flat::Group;
@@ -204,30 +203,6 @@ fn arrive_by_index<P: Drop>(tables: &mut Tables<P>, index: InputId, msg: Msg<P>)
     }
 }
 
-// Queues the oldest held message of an input for the sink that it is on.
-fn release<P: Drop>(tables: &mut Tables<P>, x: &Input)
-    requires { HasRoom 1 tables.old }
-    ensures state { state_of tables.new ≡ releasing x.now (find (is_of x.now.index) tables.old.delayed.items) (state_of tables.old) }
-    ensures room { (n : ℕ) → HasRoom (n + 1) tables.old → HasRoom n tables.new }
-{
-    match delayed::take_first(&mut tables.delayed, x.index) {
-        None => {}
-        Some(msg) => post(tables, x.sink, msg),
-    }
-}
-
-// The same for the input with an index.
-fn release_by_index<P: Drop>(tables: &mut Tables<P>, index: InputId)
-    requires { HasRoom 1 tables.old }
-    ensures state { state_of tables.new ≡ changed (state_of tables.old) (Released index) }
-    ensures room { (n : ℕ) → HasRoom (n + 1) tables.old → HasRoom n tables.new }
-{
-    match tables.inputs.input_of(index) {
-        None => {}
-        Some(x) => release(tables, &x),
-    }
-}
-
 // Adds a new input, and posts the message with its stream to its sink.
 fn make<P: Drop>(tables: &mut Tables<P>, x: Input, new: Msg<P>, streams: u32, inputs: u32)
     requires { HasRoom 1 tables.old }
@@ -299,7 +274,7 @@ fn apply_to_input<P: Drop>(tables: &mut Tables<P>, change: CoreChange<P>)
         Change::Leaves(index) => leave(tables, index),
         Change::Moves(index, to) => depart_by_index(tables, index, to),
         Change::Arrives(index, msg) => arrive_by_index(tables, index, msg),
-        Change::Released(index) => release_by_index(tables, index),
+        Change::Released(index) => release(tables, index, 1),
         Change::Posted(index, msg) => post_by_index(tables, index, msg),
         Change::Gone(index) => remove_input(tables, index),
         _ => unreachable!(),
@@ -338,6 +313,27 @@ pub(crate) fn apply<P: Drop>(tables: &mut Tables<P>, change: CoreChange<P>)
     }
 }
 
+// Makes the first change, and with one that releases a held message of an input all that follow it at once and do the same:
+// they take one pass over those that are held. `changes` are those after it.
+fn apply_first<P: Drop>(
+    tables: &mut Tables<P>,
+    change: CoreChange<P>,
+    changes: &mut VecDeque<CoreChange<P>>,
+)
+    requires { HasRoom (length changes.old.items + 1) tables.old }
+    ensures state { committed (state_of tables.new) changes.new.items ≡ committed (state_of tables.old) (change ∷ changes.old.items) }
+    ensures room { HasRoom (length changes.new.items) tables.new }
+    ensures len { length changes.new.items ≤ length changes.old.items }
+{
+    match change {
+        Change::Released(index) => {
+            let more = take_releases(changes, index);
+            release(tables, index, more + 1);
+        }
+        _ => apply(tables, change),
+    }
+}
+
 /// Makes all changes, in order. Takes no memory.
 pub(crate) fn commit<P: Drop>(tables: &mut Tables<P>, changes: Vec<CoreChange<P>>)
     requires { HasRoom (length changes.items) tables.old }
@@ -345,7 +341,7 @@ pub(crate) fn commit<P: Drop>(tables: &mut Tables<P>, changes: Vec<CoreChange<P>
 {
     let mut changes = VecDeque::from_vec(changes);
     while let Some(change) = changes.pop_front() {
-        apply(tables, change);
+        apply_first(tables, change, &mut changes);
     }
 }
 

@@ -17,6 +17,7 @@ mod lending;
 mod out;
 mod outcome;
 mod queues;
+mod release;
 mod start;
 mod tables;
 mod writing;

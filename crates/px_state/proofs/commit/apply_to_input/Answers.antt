@@ -27,10 +27,10 @@ pub returns-in-Arrives-clause-room : goal.returns-in-Arrives-clause-room
 returns-in-Arrives-clause-room g c = c.arrive_by_index.ensures.room
 
 pub returns-in-Released-clause-state : goal.returns-in-Released-clause-state
-returns-in-Released-clause-state g c = as_found (state_of c.args.tables.now) _ c.args.change _ c.in-Released.is c.release_by_index.ensures.state
+returns-in-Released-clause-state g c = as_found (state_of c.args.tables.now) _ c.args.change _ c.in-Released.is c.release.ensures.state
 
 pub returns-in-Released-clause-room : goal.returns-in-Released-clause-room
-returns-in-Released-clause-room g c = c.release_by_index.ensures.room
+returns-in-Released-clause-room g c = c.release.ensures.room
 
 pub returns-in-Posted-clause-state : goal.returns-in-Posted-clause-state
 returns-in-Posted-clause-state g c = as_found (state_of c.args.tables.now) _ c.args.change _ c.in-Posted.is c.post_by_index.ensures.state
