@@ -1,3 +1,4 @@
 pub mod Named
 pub mod Sayable
 mod Added
+pub mod Removed

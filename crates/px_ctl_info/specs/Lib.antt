@@ -1,4 +1,5 @@
 pub mod Properties
+pub mod Removed
 pub mod Clients
 pub mod Sinks
 pub mod Lists

@@ -1,15 +1,16 @@
 //! The property lists of clients (PulseAudio: `command_update_proplist` and `command_remove_proplist` of
 //! `pulsecore/protocol-native.c`; that a missing key refuses the whole removal is own).
 
-ghost use Rattle.std.specs.Prelude.{◌≡◌, ◌<◌, ◌≤◌, ◌∷◌, [], IfOk, OnOk, Ok, length, take, drop, fold, Some, slice_get};
+ghost use Rattle.std.specs.Prelude.{◌≡◌, ◌<◌, ◌≤◌, ◌∷◌, [], true, IfOk, OnOk, Ok, length, take, drop, fold, Some, slice_get};
 ghost use Rattle.std.specs.List.{list_all};
 ghost use Rattle.std.specs.Option.{option_map};
 ghost use Rattle.px_tag.specs.Item.{is_text};
-ghost use Rattle.px_tag.specs.PropList.{has_key, without, updated};
+ghost use Rattle.px_tag.specs.PropList.{Property, has_key, is_property, with_value, with_all, without, updated};
 ghost use Rattle.px_reply.specs.Front.{reply_to};
 ghost use Rattle.px_outcome.specs.declared.change.Change.TheVariants.{Named};
 ghost use Rattle.px_outcome.specs.Outcome.{replied};
 ghost use Rattle.px_outcome.specs.Handled.{HandledAs};
+ghost use Rattle.px_ctl_info.specs.Removed.{kept, marked, with_unmarked};
 ghost use Rattle.px_ctl_info.specs.Properties.{text_in, text_under, list_of, mode_of, has_keys, without_keys, update_client, remove_client};
 
 use px_cmd::Keys;
@@ -79,13 +80,92 @@ pub(crate) fn has_keys(list: &PropList, keys: &Keys) -> bool
         .all(|key| list.contains(key.as_slice()))
 }
 
-/// Removes these keys from the list. Takes no memory.
-pub(crate) fn remove_all(list: &mut PropList, keys: &Keys)
+// Removes these keys from the list, one after the other: each moves the keys after it. Takes no memory.
+fn remove_each(list: &mut PropList, keys: &Keys)
     ensures { list.new ≡ without_keys list.old keys.now }
 {
     for key in keys.as_slice() {
         list.remove(key.as_slice());
     }
+}
+
+// Marks a key that the list has.
+fn mark(marks: &mut PropList, list: &PropList, key: &[u8]) -> px_tag::Mem<()>
+    requires { has_key list.now key.now ≡ true }
+    ensures { OnOk result (marks.new ≡ with_value marks.old key.now []) }
+{
+    let _count = list.len();
+    marks.set(key, &[])
+}
+
+// The keys of a command as a list of their own, without values. The list has all of them.
+fn marked(alloc: Global, list: &PropList, keys: &Keys) -> px_tag::Mem<PropList>
+    requires { has_keys list.now keys.now ≡ true }
+    ensures { IfOk result (λ marks. marks ≡ marked [] keys.now) }
+{
+    let mut marks = PropList::new(alloc);
+    for key in keys.as_slice() {
+        mark(&mut marks, list, key.as_slice())?;
+    }
+    Ok(marks)
+}
+
+// Adds a property, unless its key is marked.
+fn add_unmarked(made: &mut PropList, marks: &PropList, key: &[u8], value: &[u8]) -> px_tag::Mem<()>
+    requires { is_property (key.now, value.now) ≡ true }
+    ensures { OnOk result (made.new ≡ with_unmarked marks.now made.old (key.now, value.now)) }
+{
+    if marks.contains(key) {
+        return Ok(());
+    }
+    made.set(key, value)
+}
+
+// Adds the property at a place of a list, unless its key is marked.
+fn add_at(made: &mut PropList, marks: &PropList, list: &PropList, place: usize) -> px_tag::Mem<()>
+    ensures { OnOk result ((p : Property) → slice_get list.now place ≡ Some p → made.new ≡ with_unmarked marks.now made.old p) }
+{
+    match list.get_index(place) {
+        None => Ok(()),
+        Some((key, value)) => add_unmarked(made, marks, key, value),
+    }
+}
+
+// The properties of a list whose keys aren't marked.
+fn unmarked(alloc: Global, list: &PropList, marks: &PropList) -> px_tag::Mem<PropList>
+    ensures { IfOk result (λ made. made ≡ with_all [] (kept marks.now list.now)) }
+{
+    let mut made = PropList::new(alloc);
+    for place in 0..list.len() {
+        add_at(&mut made, marks, list, place)?;
+    }
+    Ok(made)
+}
+
+// The list without these keys, all of which it has: they are marked first, and one pass leaves the others.
+fn without_marked(alloc: Global, list: &PropList, keys: &Keys) -> px_tag::Mem<PropList>
+    requires { has_keys list.now keys.now ≡ true }
+    ensures { IfOk result (λ made. made ≡ without_keys list.now keys.now) }
+{
+    let _count = list.len();
+    let marks = marked(alloc, list, keys)?;
+    let made = unmarked(alloc, list, &marks)?;
+    Ok(made)
+}
+
+// The greatest number of keys that are removed one by one.
+const FEW: usize = 4;
+
+/// `list` without these keys, all of which it has.
+pub(crate) fn without_keys(alloc: Global, mut list: PropList, keys: &Keys) -> px_tag::Mem<PropList>
+    requires { has_keys list keys.now ≡ true }
+    ensures { IfOk result (λ made. made ≡ without_keys list keys.now) }
+{
+    if keys.as_slice().len() > FEW {
+        return without_marked(alloc, &list, keys);
+    }
+    remove_each(&mut list, keys);
+    Ok(list)
 }
 
 /// `list`, updated by `other` in a mode.
@@ -139,8 +219,8 @@ pub fn remove_client<M: Drop, G: Drop>(
 ) -> Result<StepOutcome<M, G>, Refusal>
     ensures { HandledAs result (remove_client (option_map (λ client. client.now) client.entry) me.now tag keys.now) }
 {
-    let mut made = list_of(alloc, client)?;
-    check(has_keys(&made, keys), ErrorCode::NoEntity)?;
-    remove_all(&mut made, keys);
+    let list = list_of(alloc, client)?;
+    check(has_keys(&list, keys), ErrorCode::NoEntity)?;
+    let made = without_keys(alloc, list, keys)?;
     named(alloc, me, tag, made)
 }

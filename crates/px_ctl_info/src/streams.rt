@@ -12,7 +12,7 @@ ghost use Rattle.px_tag.specs.PropList.{with_value};
 ghost use Rattle.px_names.specs.InputLists.{list_of};
 ghost use Rattle.px_ctl_info.specs.Properties.{STREAM_NAME, update_stream, remove_stream, name_in, with_name, set_stream_name};
 
-use crate::properties::{has_keys, mode_of, remove_all, updated};
+use crate::properties::{has_keys, mode_of, updated, without_keys};
 use px_cmd::Keys;
 use px_names::InputLists;
 use px_outcome::{Change, Input, Refusal, StepOutcome, check, present};
@@ -68,9 +68,9 @@ pub fn remove_stream<M: Drop, G: Drop>(
     ensures { HandledAs result (remove_stream stream lists.now.items tag keys.now) }
 {
     let x = present(stream, ErrorCode::NoEntity)?;
-    let mut made = lists.copy_of(x.index)?;
-    check(has_keys(&made, keys), ErrorCode::NoEntity)?;
-    remove_all(&mut made, keys);
+    let list = lists.copy_of(x.index)?;
+    check(has_keys(&list, keys), ErrorCode::NoEntity)?;
+    let made = without_keys(alloc, list, keys)?;
     described(alloc, tag, x.index, made)
 }
 

@@ -1,6 +1,6 @@
 //! A sink gets another group of volumes, and the factors that it gives are posted to the sink.
 
-ghost use Rattle.std.specs.Prelude.{◌≡◌, ◌++◌, ◌∷◌, [], List, None, Some, IsSome, IfOk, OnOk};
+ghost use Rattle.std.specs.Prelude.{◌≡◌, ◌++◌, ◌∷◌, [], List, length, None, Some, IsSome, IfOk, OnOk};
 ghost use Rattle.px_flat.specs.FlatVolume.{factors_for, member_of, real_of};
 ghost use Rattle.px_outcome.specs.Input.{settled_on, is_settled};
 ghost use Rattle.px_outcome.specs.declared.input.Input.{Input};
@@ -63,6 +63,13 @@ fn add_settled(
     Ok(())
 }
 
+// The number of inputs that are settled on a sink.
+fn settled_count(sink: SinkId, inputs: &[Input]) -> usize
+    ensures { result ≡ length (settled_on inputs.now sink) }
+{
+    inputs.iter().filter(|x| is_settled(sink, x)).count()
+}
+
 // The factors of the inputs that are settled on a sink with this group, and room for one more.
 fn settled_factors(
     alloc: Global,
@@ -74,7 +81,7 @@ fn settled_factors(
     requires { real.now ≡ real_of group.now }
     ensures { IfOk result (λ list. list.items ≡ factor_list group.now (settled_on inputs.now sink)) }
 {
-    let mut list = Vec::with_capacity(alloc, inputs.len().saturating_add(1))?;
+    let mut list = Vec::with_capacity(alloc, settled_count(sink, inputs).saturating_add(1))?;
     for input in inputs {
         add_settled(&mut list, sink, group, real, input)?;
     }
@@ -107,6 +114,16 @@ fn add_settled_with(
     Ok(())
 }
 
+// The number of inputs that are settled on a sink or have this index.
+fn settled_count_with(sink: SinkId, index: InputId, inputs: &[Input]) -> usize
+    ensures { result ≡ length (settled_with inputs.now sink index) }
+{
+    inputs
+        .iter()
+        .filter(|x| is_settled_with(sink, index, x))
+        .count()
+}
+
 // The factors of the inputs that are settled on a sink with this group, and of the input with this index.
 fn settled_factors_with(
     alloc: Global,
@@ -119,7 +136,7 @@ fn settled_factors_with(
     requires { real.now ≡ real_of group.now }
     ensures { IfOk result (λ list. list.items ≡ factor_list group.now (settled_with inputs.now sink index)) }
 {
-    let mut list = Vec::with_capacity(alloc, inputs.len())?;
+    let mut list = Vec::with_capacity(alloc, settled_count_with(sink, index, inputs))?;
     for input in inputs {
         add_settled_with(&mut list, sink, index, group, real, input)?;
     }
