@@ -1,10 +1,10 @@
 -- What the client has heard, from piece to piece and from frame to frame.
-use Rattle.std.proofs.Common.{◌≡◌, ℕ, ◌+◌, ◌<◌, ◌≤◌, List, [], ◌∷◌, ◌++◌, length, length-append, take, drop, Option, None, Some, refl, ap, sym, subst, ◌∙◌, append-nil, append_assoc, inl, inr, arith}
+use Rattle.std.proofs.Common.{◌≡◌, ℕ, ◌+◌, ◌≤◌, List, [], ◌∷◌, ◌++◌, length, length-append, take, drop, None, Some, refl, ap, sym, subst, ◌∙◌, append-nil, append_assoc, inl, inr, arith}
 use Rattle.std.proofs.lemmas.List.{take-append-drop, drop-drop}
 use Rattle.px_frame.specs.declared.frame.Frame.{Frame}
 use Rattle.px_frame.specs.declared.fault.FrameFault.{FrameFault}
 use Rattle.px_frame.specs.Progress.{HasFed}
-use Rattle.px_frame.specs.Reading.{Ending, Unfinished, Broken, IsRead}
+use Rattle.px_frame.specs.Reading.{Broken, IsRead}
 use Rattle.px_frame.specs.Meaning.{frames_in, ending_in}
 use Rattle.px_frame.proofs.DecoderLemmas.{failed-more}
 use Rattle.px_frame.proofs.MeaningLemmas.{read-only}
@@ -46,8 +46,8 @@ module _ (errand : Errand) (ear : Hearing) (bytes : List ℕ) (stage : Stage) (h
       let left = left_of ear in
       let later : drop (ear.next + n) ear.frames ≡ drop n left = sym (drop-drop n ear.next ear.frames) in
       let same : h.judged ++ left ≡ (h.judged ++ take n left) ++ drop (ear.next + n) ear.frames =
-          ap (λ (r : List Frame). h.judged ++ r) (sym (take-append-drop n left)) ∙ sym (append_assoc h.judged (take n left) (drop n left))
-          ∙ ap (λ (r : List Frame). (h.judged ++ take n left) ++ r) (sym later) in
+      ap (λ (r : List Frame). h.judged ++ r) (sym (take-append-drop n left)) ∙ sym (append_assoc h.judged (take n left) (drop n left))
+      ∙ ap (λ (r : List Frame). (h.judged ++ take n left) ++ r) (sym later) in
       subst (λ (e : Hearing). HasHeard errand e bytes to) (sym is) (record {
         judged = h.judged ++ take n left;
         fed = subst (λ (fs : List Frame). HasFed ear.decoder bytes fs) same h.fed;
@@ -64,7 +64,7 @@ module _ (errand : Errand) (ear : Hearing) (bytes : List ℕ) (stage : Stage) (h
   fed_more after piece frames none fed read frames_are first count few =
       let left_is : left_of after ≡ frames = ap (λ (n : ℕ). drop n after.frames) first ∙ frames_are in
       let same : (h.judged ++ left_of ear) ++ frames ≡ h.judged ++ left_of after =
-          ap (λ (fs : List Frame). (h.judged ++ fs) ++ frames) none ∙ ap (λ (fs : List Frame). fs ++ frames) (append-nil h.judged) ∙ ap (λ (fs : List Frame). h.judged ++ fs) (sym left_is) in
+      ap (λ (fs : List Frame). (h.judged ++ fs) ++ frames) none ∙ ap (λ (fs : List Frame). fs ++ frames) (append-nil h.judged) ∙ ap (λ (fs : List Frame). h.judged ++ fs) (sym left_is) in
       let size = length-append bytes piece in
       record {
         judged = h.judged;

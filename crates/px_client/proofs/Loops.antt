@@ -1,5 +1,5 @@
 -- How the hearing of several pieces joins.
-use Rattle.std.proofs.Common.{◌≡◌, ℕ, ◌+◌, ◌-◌, ◌<◌, ◌≤◌, List, [], ◌∷◌, ◌++◌, length, take, drop, Option, None, Some, Result, Ok, Err, IfErr, refl, ap, sym, subst, ◌∙◌, append-nil, append_assoc, inl, arith, length-drop}
+use Rattle.std.proofs.Common.{◌≡◌, ℕ, ◌+◌, ◌-◌, ◌≤◌, List, [], ◌++◌, length, take, drop, Option, None, Some, Result, Ok, Err, IfErr, refl, ap, sym, subst, ◌∙◌, append-nil, append_assoc, inl, arith, length-drop}
 use Rattle.std.proofs.lemmas.List.{take_all, drop_all, drop-drop}
 use Rattle.px_ends.specs.Links.{LinkCounts}
 use Rattle.px_ends.specs.Visible.{before_taking}
@@ -12,9 +12,9 @@ use Rattle.px_client.specs.declared.hearing.Hearing.{Hearing}
 use Rattle.px_client.specs.declared.inputs.Input.{Input}
 use Rattle.px_client.specs.declared.end.ClientEnd.{ClientEnd}
 use Rattle.px_client.specs.declared.end.ClientEnd.TheVariants as ends
-use Rattle.px_client.specs.Dialogue.{Stage, Waiting, Done, Refused, Astray, stage_after, stage_from, stage_of}
-use Rattle.px_client.specs.Causes.{HEARD_MAX, EndsBy, IsSound, HasFailed, HasEnded, RoseBy, IsSilent, EndCounts, Counts, ReceiveGives, HearFails}
-use Rattle.px_client.specs.Hearing.{left_of, HasHeard, Scans, HearsTo, Refills, HearsOn, Replies}
+use Rattle.px_client.specs.Dialogue.{Waiting, Refused, Astray, stage_after, stage_from}
+use Rattle.px_client.specs.Causes.{HEARD_MAX, EndsBy, IsSound, EndCounts, Counts, ReceiveGives, HearFails}
+use Rattle.px_client.specs.Hearing.{left_of, HasHeard, Scans, Refills, HearsOn, Replies}
 use Rattle.px_client.proofs.Heard.{brought, judged_more, faulty, too_many, gone}
 use Rattle.px_client.proofs.Unmoved.{unreceived}
 

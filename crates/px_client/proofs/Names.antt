@@ -1,5 +1,5 @@
 -- A sink's name has no zero byte.
-use Rattle.std.proofs.Common.{◌≡◌, ℕ, Bool, true, false, not, ◌≤◌, ◌&&◌, ◌==◌, nat_le, IsTrue, List, [], ◌∷◌, refl, leb-true, arith}
+use Rattle.std.proofs.Common.{◌≡◌, ℕ, Bool, true, false, not, ◌≤◌, ◌==◌, nat_le, IsTrue, List, [], ◌∷◌, refl, leb-true, arith}
 use Rattle.std.specs.List.{list_all}
 use Rattle.std.proofs.lemmas.Bool.{eqb-true}
 use Rattle.px_tag.specs.Item.{is_text}

@@ -7,7 +7,6 @@ use Rattle.px_frame.specs.declared.frame.Frame.{Frame}
 use Rattle.px_frame.specs.declared.frame.Body.{Body}
 use Rattle.px_frame.specs.declared.frame.Body.TheVariants.{Control, Write}
 use Rattle.px_client.specs.declared.errand.Errand.{Errand}
-use Rattle.px_client.specs.declared.errand.Errand.TheVariants as errands
 use Rattle.px_client.specs.declared.inputs.Input.{Input}
 use Rattle.px_client.specs.declared.awaited.Awaited.{Awaited}
 use Rattle.px_client.specs.declared.awaited.Awaited.TheVariants as awaits
@@ -112,7 +111,7 @@ in_order errand frames inputs e =
     let two = next errand awaits.Client one.rest inputs one.goes_on in
     let three = next errand (last_awaited errand) two.rest inputs two.goes_on in
     let same : three.reply ≡ inputs = inputs_are three.reply inputs
-        (sym (ap (λ (s : Stage). stage_from errand s three.rest) (last_ends errand three.reply) ∙ done_stays errand three.reply three.rest) ∙ three.goes_on) in
+    (sym (ap (λ (s : Stage). stage_from errand s three.rest) (last_ends errand three.reply) ∙ done_stays errand three.reply three.rest) ∙ three.goes_on) in
     record {
       version = one.answer;
       client = two.answer;

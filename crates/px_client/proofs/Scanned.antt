@@ -1,12 +1,12 @@
 -- Frames, judged one after the other.
-use Rattle.std.proofs.Common.{◌≡◌, ℕ, suc, ◌+◌, ◌<◌, List, [], ◌∷◌, ◌++◌, length, take, drop, get_or, refl, ap, sym, ◌∙◌}
+use Rattle.std.proofs.Common.{◌≡◌, ℕ, ◌+◌, ◌<◌, List, [], ◌∷◌, ◌++◌, length, take, drop, get_or, refl, ap, sym, ◌∙◌}
 use Rattle.std.proofs.lemmas.List.{take-append-drop, take_more}
 use Rattle.px_frame.specs.declared.frame.Frame.{Frame}
 use Rattle.px_client.specs.declared.errand.Errand.{Errand}
 use Rattle.px_client.specs.declared.awaited.Awaited.{Awaited}
 use Rattle.px_client.specs.declared.answer.Verdict.{Verdict}
-use Rattle.px_client.specs.declared.answer.Verdict.TheVariants.{Message, Reply, Refusal, Other}
-use Rattle.px_client.specs.Dialogue.{Stage, Waiting, Done, Refused, Astray, judged_body, stage_by, next_stage, stage_from}
+use Rattle.px_client.specs.declared.answer.Verdict.TheVariants.{Refusal, Other}
+use Rattle.px_client.specs.Dialogue.{Stage, Waiting, Refused, Astray, judged_body, stage_by, next_stage, stage_from}
 use Rattle.px_client.proofs.Heard.{stage_both}
 
 pub refused_stays : (errand : Errand) (code : ℕ) (frames : List Frame) → stage_from errand (Refused code) frames ≡ Refused code

@@ -1,9 +1,9 @@
 -- How many bytes the packets have.
-use Rattle.std.proofs.Common.{◌≡◌, ℕ, ◌+◌, ◌<◌, ◌≤◌, Bool, true, false, List, [], ◌∷◌, ◌++◌, length, length-append, refl, arith, lit<}
+use Rattle.std.proofs.Common.{◌≡◌, ℕ, ◌+◌, ◌<◌, ◌≤◌, true, false, List, [], ◌∷◌, ◌++◌, length, length-append, refl, arith, lit<}
 use Rattle.px_tag.specs.Item.{number, arbitrary, text, flag, channel_volumes, proplist, property}
 use Rattle.px_client.specs.declared.errand.Errand.{Errand}
 use Rattle.px_client.specs.declared.errand.Errand.TheVariants.{List as list_inputs, Volume, Mute, SinkVolume, Move, Kill}
-use Rattle.px_client.specs.Errand.{IsName, IsErrand, auth_packet, name_packet, errand_packet}
+use Rattle.px_client.specs.Errand.{IsErrand, auth_packet, name_packet, errand_packet}
 
 auth_size : (cookie : List ℕ) → length (auth_packet cookie) ≡ 20 + length cookie
 unfolding auth_packet number arbitrary

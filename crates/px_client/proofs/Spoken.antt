@@ -1,5 +1,5 @@
 -- What the client sends is read as the commands that it means.
-use Rattle.std.proofs.Common.{◌≡◌, ℕ, zero, suc, get_or, ◌+◌, ◌^◌, ◌<◌, ◌≤◌, Bool, true, false, List, [], ◌∷◌, ◌++◌, length, length-append, append_assoc, Ok, refl, ap, sym, subst, ◌∙◌, lit<, arith}
+use Rattle.std.proofs.Common.{◌≡◌, ℕ, zero, suc, get_or, ◌+◌, ◌^◌, ◌<◌, ◌≤◌, List, [], ◌∷◌, ◌++◌, length, length-append, Ok, refl, ap, subst, ◌∙◌, lit<, arith}
 use Rattle.px_frame.specs.declared.frame.Frame.{Frame}
 use Rattle.px_frame.specs.declared.frame.Body.TheVariants.{Control}
 use Rattle.px_frame.specs.Frame.{offset_at}
@@ -15,7 +15,7 @@ use Rattle.px_cmd.proofs.Again.{packet_again}
 use Rattle.px_cmd.proofs.Meant.{again}
 use Rattle.px_client.specs.declared.errand.Errand.{Errand}
 use Rattle.px_client.specs.declared.errand.Errand.TheVariants.{List as list_inputs, Volume, Mute, SinkVolume, Move, Kill}
-use Rattle.px_client.specs.Errand.{IsName, IsErrand, HasNumbers, packet, framed, auth_command, name_command, command_for, auth_packet, name_packet, errand_packet, packets_for, controls_from, sent_for}
+use Rattle.px_client.specs.Errand.{IsErrand, HasNumbers, packet, framed, auth_command, name_command, command_for, auth_packet, name_packet, errand_packet, packets_for, controls_from, sent_for}
 use Rattle.px_client.proofs.Names.{name_is_text}
 use Rattle.px_client.proofs.Sizes.{auth_some, auth_few, name_some, name_few, errand_some, errand_few}
 
@@ -45,8 +45,8 @@ three_frames a b c fa fb fc =
     let one : AreWhole (framed a) (control 0 a ∷ []) = one_frame [] [] a no_bytes fa in
     let two : AreWhole (framed a ++ framed b) (control 0 a ∷ control (length (framed a)) b ∷ []) = one_frame (framed a) (control 0 a ∷ []) b one fb in
     let all : IsRead (framed a ++ framed b ++ framed c) (control 0 a ∷ control (length (framed a)) b ∷ control (length (framed a ++ framed b)) c ∷ []) Unfinished =
-        whole-read (framed a ++ framed b ++ framed c) (control 0 a ∷ control (length (framed a)) b ∷ control (length (framed a ++ framed b)) c ∷ [])
-        (one_frame (framed a ++ framed b) (control 0 a ∷ control (length (framed a)) b ∷ []) c two fc) in
+    whole-read (framed a ++ framed b ++ framed c) (control 0 a ∷ control (length (framed a)) b ∷ control (length (framed a ++ framed b)) c ∷ [])
+    (one_frame (framed a ++ framed b) (control 0 a ∷ control (length (framed a)) b ∷ []) c two fc) in
     moved_to (framed a ++ framed b ++ framed c) a b c (length (framed a)) (length (framed a ++ framed b)) (0 + length (framed a)) (0 + length (framed a) + length (framed b))
     (from_zero (length (framed a)))
     (length-append (framed a) (framed b) ∙ ap (λ (x : ℕ). x + length (framed b)) (from_zero (length (framed a))))

@@ -18,7 +18,6 @@ use Rattle.px_client.specs.Dialogue.{Stage, Waiting, Done, last_awaited, stage_a
 use Rattle.px_client.specs.Causes.{EndsBy, SendFails, IsSound, EndCounts, Counts}
 use Rattle.px_client.specs.Errand.{sent_for}
 use Rattle.px_client.specs.Hearing.{left_of, HasHeard, HearsTo, Replies}
-use Rattle.px_client.specs.Listing.{listing}
 use Rattle.px_client.specs.Outcome.{LinkState, Sends, Talks, Says, Converses, Prints, SendsBy, ShowsBy, Runs}
 use Rattle.px_client.proofs.Heard.{brought}
 use Rattle.px_client.proofs.Loops.{sound_still, counts_after}

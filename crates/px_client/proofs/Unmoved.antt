@@ -2,7 +2,7 @@
 use Rattle.std.proofs.Common.{◌≡◌, ℕ, List, Option, Result, Ok, Err, OnErr}
 use Rattle.px_client.specs.declared.end.ClientEnd.{ClientEnd}
 use Rattle.px_client.specs.declared.end.ClientEnd.TheVariants as ends
-use Rattle.px_client.specs.Causes.{ReceiveGives, SendGives, EndsBy}
+use Rattle.px_client.specs.Causes.{ReceiveGives, SendGives}
 
 pub on_err : {X E F : Type 0} (result : Result X E) → F → OnErr result F
 on_err (Ok x) f = tt

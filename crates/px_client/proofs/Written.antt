@@ -1,8 +1,9 @@
 -- What the server writes is read as it was.
-use Rattle.std.proofs.Common.{◌≡◌, ℕ, zero, suc, ◌+◌, ◌<◌, ◌≤◌, ◌^◌, Bool, true, false, List, [], ◌∷◌, ◌++◌, length, length-append, map, fold, Option, None, Some, Result, Ok, Err, codes, refl, ap, sym, subst, ◌∙◌, append-nil, append_assoc, lit<, arith}
+use Rattle.std.proofs.Common.{◌≡◌, ℕ, zero, suc, ◌<◌, ◌≤◌, ◌^◌, ◌==◌, Bool, true, false, List, [], ◌∷◌, ◌++◌, length, length-append, map, fold, Option, None, Some, Ok, Err, codes, refl, ap, sym, ◌∙◌, append-nil, append_assoc, lit<, arith}
+use Rattle.std.proofs.lemmas.Bool.{eqb-true}
 use Rattle.px_tag.specs.declared.fault.TagFault.TheVariants.{Left}
 use Rattle.px_tag.specs.declared.raw.RawSpec.{RawSpec}
-use Rattle.px_tag.specs.Place.{Place, start_of, offset_of, ◌>>=◌}
+use Rattle.px_tag.specs.Place.{offset_of}
 use Rattle.px_tag.specs.PropList.{Property}
 use Rattle.px_tag.specs.Item.{number, text, usec, flag, spec, channel_map, channel_volumes, proplist, IsText, IsSpec, IsMap, IsVolumes, IsPropList}
 use Rattle.px_tag.specs.Reading.{end_at}
@@ -13,23 +14,22 @@ use Rattle.px_cmd.specs.Packet.{head_at}
 use Rattle.px_reply.specs.declared.info.InputInfo.{InputInfo}
 use Rattle.px_reply.specs.Front.{reply_to, refusal, message, nothing, driver}
 use Rattle.px_reply.specs.Info.{with_input, inputs_reply}
-use Rattle.px_client.specs.declared.inputs.Input.{Input}
 use Rattle.px_client.specs.declared.awaited.Awaited.{Awaited}
 use Rattle.px_client.specs.declared.awaited.Awaited.TheVariants as awaits
-use Rattle.px_client.specs.declared.answer.Verdict.TheVariants.{Message, Reply, Refusal, Other}
-use Rattle.px_client.specs.Answers.{owner_at, loudness_at, state_at, input_at, none_or, inputs_at, only_number, fields_at, tag_of, judged_behind, judged}
+use Rattle.px_client.specs.declared.answer.Verdict.TheVariants.{Message, Reply, Refusal}
+use Rattle.px_client.specs.Answers.{owner_at, loudness_at, state_at, input_at, inputs_at, only_number, tag_of, judged_behind, judged}
 use Rattle.px_client.specs.Written.{shown, IsInfo, AreInfos}
 
 -- ---- an input
 
-owner_again : (index module client sink : ℕ) (name : Option (List ℕ)) (size : ℕ) (r : List ℕ) → index < 2 ^ 32 → IsText name → module < 2 ^ 32 → client < 2 ^ 32 → sink < 2 ^ 32
-    → owner_at (record { size = size; rest = number index ++ (text name ++ (number module ++ (number client ++ (number sink ++ r)))) }) ≡ Ok ((index, sink), record { size = size; rest = r })
+owner_again : (index owner client sink : ℕ) (name : Option (List ℕ)) (size : ℕ) (r : List ℕ) → index < 2 ^ 32 → IsText name → owner < 2 ^ 32 → client < 2 ^ 32 → sink < 2 ^ 32
+    → owner_at (record { size = size; rest = number index ++ (text name ++ (number owner ++ (number client ++ (number sink ++ r)))) }) ≡ Ok ((index, sink), record { size = size; rest = r })
 unfolding owner_at
-owner_again index module client sink name size r li is lm lc ls =
+owner_again index owner client sink name size r li is lm lc ls =
     rw (
-      number_law.again index size (text name ++ (number module ++ (number client ++ (number sink ++ r)))) li,
-      text_law.again name size (number module ++ (number client ++ (number sink ++ r))) is,
-      number_law.again module size (number client ++ (number sink ++ r)) lm,
+      number_law.again index size (text name ++ (number owner ++ (number client ++ (number sink ++ r)))) li,
+      text_law.again name size (number owner ++ (number client ++ (number sink ++ r))) is,
+      number_law.again owner size (number client ++ (number sink ++ r)) lm,
       number_law.again client size (number sink ++ r) lc,
       number_law.again sink size r ls,
     ) refl
@@ -103,9 +103,19 @@ ended : (size : ℕ) → end_at (record { size = size; rest = [] }) ≡ Ok tt
 unfolding end_at
 ended size = refl
 
+not_zero : (n : ℕ) → 0 < n → (n == 0) ≡ false
+not_zero n some = go (n == 0) refl
+  where
+    go : (b : Bool) → (n == 0) ≡ b → (n == 0) ≡ false
+    go false e = e
+    go true e = absurd (let none : n ≡ 0 = eqb-true n 0 e in omega (arith, some))
+
+more_left : (size : ℕ) (rest : List ℕ) → 0 < length rest → end_at (record { size = size; rest = rest }) ≡ Err (Left (offset_of (record { size = size; rest = rest })))
+unfolding end_at
+more_left size rest some = rw (not_zero (length rest) some) refl
+
 goes_on : (i : InputInfo) (size : ℕ) (r : List ℕ) → end_at (record { size = size; rest = cells i r }) ≡ Err (Left (offset_of (record { size = size; rest = cells i r })))
-unfolding end_at number
-goes_on i size r = refl
+goes_on i size r = more_left size (cells i r) (omega (arith, cells_more i r))
 
 inputs_again : (most : ℕ) (infos : List InputInfo) (size : ℕ) → AreInfos infos → length (all_cells infos) ≤ most
     → inputs_at most (record { size = size; rest = all_cells infos }) ≡ Ok (map shown infos)

@@ -9,10 +9,9 @@ use Rattle.px_frame.specs.Reading.{Unfinished, Broken}
 use Rattle.px_frame.specs.Meaning.{frames_in, ending_in}
 use Rattle.px_client.specs.declared.errand.Errand.{Errand}
 use Rattle.px_client.specs.declared.awaited.Awaited.{Awaited}
-use Rattle.px_client.specs.declared.inputs.Input.{Input}
 use Rattle.px_client.specs.declared.end.ClientEnd.{ClientEnd}
 use Rattle.px_client.specs.declared.end.ClientEnd.TheVariants as ends
-use Rattle.px_client.specs.Dialogue.{Stage, Waiting, Done, Refused, Astray, stage_of}
+use Rattle.px_client.specs.Dialogue.{Waiting, Refused, Astray, stage_of}
 
 -- the most bytes that the client hears, 2^30
 abbrev pub HEARD_MAX : ℕ

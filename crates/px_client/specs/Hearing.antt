@@ -1,5 +1,5 @@
 -- What a client has heard.
-use Rattle.std.specs.Prelude.{◌≡◌, ℕ, ◌≤◌, List, [], ◌++◌, length, drop, take, Option, None, Some, Result, Ok, Err, ⊤}
+use Rattle.std.specs.Prelude.{◌≡◌, ℕ, ◌≤◌, List, ◌++◌, length, drop, take, Option, None, Some, Result, Ok, Err, ⊤}
 use Rattle.px_ends.specs.Visible.{before_taking}
 use Rattle.px_frame.specs.declared.fault.FrameFault.{FrameFault}
 use Rattle.px_frame.specs.declared.frame.Frame.{Frame}
@@ -11,7 +11,7 @@ use Rattle.px_client.specs.declared.inputs.Input.{Input}
 use Rattle.px_client.specs.declared.hearing.Hearing.{Hearing}
 use Rattle.px_client.specs.declared.end.ClientEnd.{ClientEnd}
 use Rattle.px_client.specs.declared.end.ClientEnd.TheVariants as ends
-use Rattle.px_client.specs.Dialogue.{Stage, Waiting, Done, Refused, Astray, stage_after, stage_from, stage_of}
+use Rattle.px_client.specs.Dialogue.{Stage, Waiting, Refused, Astray, stage_after, stage_from, stage_of}
 use Rattle.px_client.specs.Causes.{HEARD_MAX, EndsBy}
 
 -- the frames that are still to be judged

@@ -1,5 +1,5 @@
 -- The replies that the server writes, as the client reads them.
-use Rattle.std.specs.Prelude.{◌≡◌, ℕ, ◌<◌, ◌^◌, List, map}
+use Rattle.std.specs.Prelude.{◌<◌, ◌^◌, List}
 use Rattle.std.specs.List.{AllByRecursion}
 use Rattle.px_tag.specs.Item.{IsText, IsSpec, IsMap, IsVolumes, IsPropList}
 use Rattle.px_reply.specs.declared.info.InputInfo.{InputInfo}

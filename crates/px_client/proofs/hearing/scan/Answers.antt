@@ -1,4 +1,4 @@
-use Rattle.std.proofs.Common.{◌≡◌, ◌∙◌, ap, sym, refl, length, take, arith}
+use Rattle.std.proofs.Common.{◌∙◌, ap, sym, refl, arith}
 use Rattle.std.proofs.lemmas.List.{take_all}
 use Rattle.px_client.specs.declared.answer.Verdict.TheVariants.{Message, Reply, Refusal, Other}
 use Rattle.px_client.specs.Dialogue.{Waiting, stage_from}
@@ -9,7 +9,7 @@ pub returns-in-Reply : goal.returns-in-Reply
 returns-in-Reply c = λ errand. (
   omega (arith, c.loop-i-test.true),
   one_more errand c.args.awaited c.args.frames.now c.loop-i.i c.index-frames-i.result c.loop-i-test.true (sym c.index-frames-i.is) (c.loop-i.invariant errand)
-      (Reply c.in-Reply.inputs) (sym c.in_ok-judge_frame.ensures ∙ c.in-Reply.is)
+      (Reply c.in-Reply.inputs) (sym c.in_ok-judge_frame.ensures ∙ c.in-Reply.is),
 )
 
 pub returns-in-Refusal : goal.returns-in-Refusal
@@ -30,5 +30,5 @@ loop-i-preserved c = λ errand.
 pub returns : goal.returns
 returns c = λ errand. (
   refl,
-  ap (stage_from errand (Waiting c.args.awaited)) (sym (take_all c.loop-i.i c.args.frames.now (omega (arith, c.loop-i-test.false)))) ∙ c.loop-i.invariant errand
+  ap (stage_from errand (Waiting c.args.awaited)) (sym (take_all c.loop-i.i c.args.frames.now (omega (arith, c.loop-i-test.false)))) ∙ c.loop-i.invariant errand,
 )

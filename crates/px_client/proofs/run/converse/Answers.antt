@@ -1,4 +1,4 @@
-use Rattle.std.proofs.Common.{◌≡◌, ◌∙◌, ◌++◌, ℕ, List, Ok, Err, subst}
+use Rattle.std.proofs.Common.{◌∙◌, ◌++◌, Err, subst}
 use Rattle.std.proofs.lemmas.Result.{err_from_is_err_and}
 use Rattle.px_client.specs.declared.awaited.Awaited.{Awaited}
 use Rattle.px_client.specs.declared.awaited.Awaited.TheVariants as awaits

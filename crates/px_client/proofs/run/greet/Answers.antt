@@ -1,10 +1,9 @@
-use Rattle.std.proofs.Common.{◌≡◌, ◌∙◌, ◌++◌, ℕ, List, Ok, Err, refl}
+use Rattle.std.proofs.Common.{◌∙◌, ◌++◌, Ok, Err, refl}
 use Rattle.std.proofs.lemmas.Result.{err_from_is_err_and}
 use Rattle.px_client.specs.declared.awaited.Awaited.TheVariants as awaits
-use Rattle.px_client.specs.declared.inputs.Input.{Input}
 use Rattle.px_client.specs.Dialogue.{Waiting, stage_after, last_awaited}
 use Rattle.px_client.specs.Errand.{framed, auth_packet, name_packet}
-use Rattle.px_client.specs.Outcome.{LinkState, Talks}
+use Rattle.px_client.specs.Outcome.{LinkState}
 use Rattle.px_client.proofs.Talking.{talks_both, talks_less, talks_none, talks_err, talks_ok, talks_as}
 use Rattle.px_client.proofs.run.greet.Goals as goal
 
@@ -30,10 +29,10 @@ returns-in_err-ask-2-clause-talks g c = λ errand.
     let u : LinkState = (record { left = g.L.Link.left c.ask-2.new.link; sent = g.L.Link.sent c.ask-2.new.link; counts = g.L.Link.counts c.ask-2.new.link }) in
     let end = c.in_err-ask-2.field-0.0 in
     let one = talks_as errand (Ok c.in_ok-ask.field-0) c.as_slice.result.now (framed (auth_packet c.args.cookie.now)) (Waiting awaits.Version) (stage_after errand awaits.Version) c.args.hearing.now c.ask.new.hearing s t
-        (c.as_slice.ensures ∙ c.in_ok-auth.ensures) (c.in_ok-ask.ensures.talks errand) in
+    (c.as_slice.ensures ∙ c.in_ok-auth.ensures) (c.in_ok-ask.ensures.talks errand) in
     let two = talks_err errand end (framed name_packet) (Waiting awaits.Client) (stage_after errand awaits.Client) (λ (x : Unit {0}). Waiting (last_awaited errand)) c.ask.new.hearing c.ask-2.new.hearing t u
-        (talks_as errand (Err end) c.as_slice-2.result.now (framed name_packet) (Waiting awaits.Client) (stage_after errand awaits.Client) c.ask.new.hearing c.ask-2.new.hearing t u
-        (c.as_slice-2.ensures ∙ c.in_ok-name.ensures) (c.in_err-ask-2.ensures.talks errand)) in
+    (talks_as errand (Err end) c.as_slice-2.result.now (framed name_packet) (Waiting awaits.Client) (stage_after errand awaits.Client) c.ask.new.hearing c.ask-2.new.hearing t u
+    (c.as_slice-2.ensures ∙ c.in_ok-name.ensures) (c.in_err-ask-2.ensures.talks errand)) in
     rw (p.1, p.2) (talks_both errand c.in_ok-ask.field-0 (Err end) (framed (auth_packet c.args.cookie.now)) (framed name_packet) (Waiting awaits.Version) (stage_after errand awaits.Version) (λ (x : Unit {0}). Waiting (last_awaited errand)) c.args.hearing.now c.ask.new.hearing c.ask-2.new.hearing s t u one two)
 
 pub returns-clause-talks : goal.returns-clause-talks
@@ -42,8 +41,8 @@ returns-clause-talks g c = λ errand.
     let t : LinkState = (record { left = g.L.Link.left c.ask.new.link; sent = g.L.Link.sent c.ask.new.link; counts = g.L.Link.counts c.ask.new.link }) in
     let u : LinkState = (record { left = g.L.Link.left c.ask-2.new.link; sent = g.L.Link.sent c.ask-2.new.link; counts = g.L.Link.counts c.ask-2.new.link }) in
     let one = talks_as errand (Ok c.in_ok-ask.field-0) c.as_slice.result.now (framed (auth_packet c.args.cookie.now)) (Waiting awaits.Version) (stage_after errand awaits.Version) c.args.hearing.now c.ask.new.hearing s t
-        (c.as_slice.ensures ∙ c.in_ok-auth.ensures) (c.in_ok-ask.ensures.talks errand) in
+    (c.as_slice.ensures ∙ c.in_ok-auth.ensures) (c.in_ok-ask.ensures.talks errand) in
     let two = talks_ok errand c.in_ok-ask-2.field-0 (tt {0}) (framed name_packet) (Waiting awaits.Client) (stage_after errand awaits.Client) (λ (x : Unit {0}). Waiting (last_awaited errand)) c.ask.new.hearing c.ask-2.new.hearing t u refl
-        (talks_as errand (Ok c.in_ok-ask-2.field-0) c.as_slice-2.result.now (framed name_packet) (Waiting awaits.Client) (stage_after errand awaits.Client) c.ask.new.hearing c.ask-2.new.hearing t u
-        (c.as_slice-2.ensures ∙ c.in_ok-name.ensures) (c.in_ok-ask-2.ensures.talks errand)) in
+    (talks_as errand (Ok c.in_ok-ask-2.field-0) c.as_slice-2.result.now (framed name_packet) (Waiting awaits.Client) (stage_after errand awaits.Client) c.ask.new.hearing c.ask-2.new.hearing t u
+    (c.as_slice-2.ensures ∙ c.in_ok-name.ensures) (c.in_ok-ask-2.ensures.talks errand)) in
     talks_both errand c.in_ok-ask.field-0 (Ok (tt {0})) (framed (auth_packet c.args.cookie.now)) (framed name_packet) (Waiting awaits.Version) (stage_after errand awaits.Version) (λ (x : Unit {0}). Waiting (last_awaited errand)) c.args.hearing.now c.ask.new.hearing c.ask-2.new.hearing s t u one two

@@ -1,4 +1,3 @@
-use Rattle.std.proofs.Common.{arith}
 use Rattle.std.proofs.lemmas.Result.{err_from_is_err_and}
 use Rattle.px_client.proofs.Loops.{counts_none, refill_faulty, refill_full, refill_none}
 use Rattle.px_client.proofs.hearing.Hearing.refill.Goals as goal

@@ -1,10 +1,10 @@
-use Rattle.std.proofs.Common.{◌≡◌, ◌∙◌, ℕ, List, Option, Some, None, Ok, length, ◌-◌, take, drop, ap, sym, subst, refl, arith}
+use Rattle.std.proofs.Common.{◌∙◌, List, Option, Ok, length, ◌-◌, take, drop, ap, subst, refl, arith}
 use Rattle.std.proofs.lemmas.Result.{err_from_is_err_and}
 use Rattle.px_frame.specs.declared.frame.Frame.{Frame}
 use Rattle.px_client.specs.declared.inputs.Input.{Input}
 use Rattle.px_client.specs.declared.errand.Errand.TheVariants as errands
 use Rattle.px_client.specs.Hearing.{Scans}
-use Rattle.px_client.proofs.Loops.{sound_still, sound_both, counts_after, hears_nothing, refilled, ended, found, stopped, scan_counts, slice_left, scanned_few, inside_still, none_left}
+use Rattle.px_client.proofs.Loops.{sound_still, sound_both, hears_nothing, refilled, ended, found, stopped, scan_counts, slice_left, scanned_few, inside_still, none_left}
 use Rattle.px_client.proofs.hearing.Hearing.reply.Goals as goal
 
 pub loop-count-init : goal.loop-count-init

@@ -1,4 +1,4 @@
-use Rattle.std.proofs.Common.{◌≡◌, ℕ, List, ◌++◌, Option, None, Some, Err, ap, sym, subst, refl}
+use Rattle.std.proofs.Common.{ℕ, ◌++◌, Option, Err, ap, sym, subst, refl}
 use Rattle.px_frame.specs.declared.fault.FrameError.{FrameError}
 use Rattle.px_frame.specs.declared.fault.FrameFault.{FrameFault}
 use Rattle.px_frame.specs.Progress.{Answers, Leaves}
