@@ -9,3 +9,4 @@ pub mod Loops
 pub mod Scanned
 pub mod Talking
 pub mod Ordered
+pub mod Layouts

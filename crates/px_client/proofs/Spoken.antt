@@ -6,7 +6,7 @@ use Rattle.px_frame.specs.Frame.{offset_at}
 use Rattle.px_frame.specs.Reading.{IsRead, Unfinished}
 use Rattle.px_frame.specs.Spelling.{AreWhole}
 use Rattle.px_frame.proofs.SpellingLemmas.{no_bytes, one_more, whole-read}
-use Rattle.px_tag.specs.Item.{IsVolumes}
+use Rattle.px_tag.specs.Item.{number, channel_volumes, IsVolumes}
 use Rattle.px_cmd.specs.declared.command.Command.{Command}
 use Rattle.px_cmd.specs.Command.{number_of, fields_of, IsNumbered}
 use Rattle.px_cmd.specs.Law.{IsCommand}
@@ -89,3 +89,7 @@ errand_means (Mute input on) is fits = means 18 2 (command_for (Mute input on)) 
 errand_means (SinkVolume name value) is fits = means 18 2 (command_for (SinkVolume name value)) (record { known = lit< tt; tagged = lit< tt; kinds = refl; each = (lit< tt, (name_is_text name is.0, (one_volume value is.1, tt))) }) tt tt
 errand_means (Move input name) is fits = means 18 2 (command_for (Move input name)) (record { known = lit< tt; tagged = lit< tt; kinds = refl; each = (fits, (lit< tt, (name_is_text name is, tt))) }) tt tt
 errand_means (Kill input) is fits = means 18 2 (command_for (Kill input)) (record { known = lit< tt; tagged = lit< tt; kinds = refl; each = (fits, tt) }) tt tt
+
+pub volume_bytes : errand_packet (Volume 0 32768) ≡ 0x4C ∷ 0 ∷ 0 ∷ 0 ∷ 0x25 ∷ 0x4C ∷ 0 ∷ 0 ∷ 0 ∷ 2 ∷ 0x4C ∷ 0 ∷ 0 ∷ 0 ∷ 0 ∷ 0x76 ∷ 1 ∷ 0 ∷ 0 ∷ 0x80 ∷ 0 ∷ []
+unfolding errand_packet number channel_volumes
+volume_bytes = refl

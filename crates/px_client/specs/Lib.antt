@@ -7,3 +7,4 @@ pub mod Causes
 pub mod Hearing
 pub mod Listing
 pub mod Outcome
+pub mod Layout

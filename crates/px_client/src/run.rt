@@ -99,6 +99,7 @@ fn print<K: Sink>(alloc: Global, inputs: &Inputs, output: &mut K) -> ClientEnd
 /// command, each after the reply to the one before, and writes what an errand that lists asks for. An end other than `Ok` leaves the link
 /// at any place of the dialogue; only after `WriteFault` may the output have gained a part of the list. Takes memory for packets, frames
 /// and the list.
+#[tactic(auto, using(crate::proofs::Talking::runs_on, crate::proofs::Talking::runs_not))]
 pub fn client<L: Link, K: Sink>(
     alloc: Global,
     cookie: &[u8],

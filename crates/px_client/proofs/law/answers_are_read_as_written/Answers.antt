@@ -1,4 +1,5 @@
 use Rattle.px_client.proofs.Written.{version_read, client_read, plain_read, list_read, refusal_read, message_read}
+use Rattle.px_client.proofs.Layouts.{layout_found}
 use Rattle.px_client.proofs.law.answers_are_read_as_written.Goals as goal
 
 pub returns-clause-version : goal.returns-clause-version
@@ -18,3 +19,6 @@ returns-clause-refusal c = refusal_read
 
 pub returns-clause-message : goal.returns-clause-message
 returns-clause-message c = message_read
+
+pub returns-clause-layout : goal.returns-clause-layout
+returns-clause-layout c = layout_found
