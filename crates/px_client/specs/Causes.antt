@@ -106,7 +106,7 @@ SendFails ends.Host = ⊤
 SendFails ends.Silent = ⊤
 SendFails _ = ⊥
 
--- nor does what was received, but for want of memory
+-- the frames of a piece end nothing but for want of memory or a fault
 abbrev pub HearFails : ClientEnd → Type 0
 HearFails ends.Memory = ⊤
 HearFails (ends.BadReply at) = ⊤

@@ -31,7 +31,7 @@ pub record HasHeard (errand : Errand) (ear : Hearing) (bytes : List ℕ) (stage 
   pub few : length bytes ≤ HEARD_MAX
   pub stage_is : stage_of errand judged ≡ stage
 
--- what judging these frames, one after the other, gives: so many of them were judged, and the last was the awaited reply, or they all are
+-- what judging these frames, one after the other, gives: the first n were judged, and the last of them is the awaited reply; or all are
 -- messages; or one of them ends the dialogue
 abbrev pub Scans : Result (ℕ × Option (List Input)) ClientEnd → Errand → Awaited → List Frame → Type 0
 Scans (Ok (n, None)) errand awaited frames = (n ≡ length frames) × (stage_from errand (Waiting awaited) frames ≡ Waiting awaited)
