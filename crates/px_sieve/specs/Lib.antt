@@ -1,0 +1,4 @@
+pub mod Segment
+pub mod Piece
+pub mod Sieve
+pub mod Standing

@@ -1,0 +1,114 @@
+//! The pieces that a sieve hands out.
+
+ghost use Rattle.std.specs.Prelude.{◌≡◌, ◌<◌, ◌≤◌, length, IfOk};
+ghost use Rattle.px_types.specs.declared.limits.TheConstants.{MAX_PAYLOAD};
+ghost use Rattle.px_frame.specs.declared.frame.Body.TheVariants.{Control};
+ghost use Rattle.px_frame.specs.Spelling.{spelling_of};
+ghost use Rattle.px_sieve.specs.Piece.{command_in, is_among, is_own, is_auth, sorted, asks};
+ghost use Rattle.px_sieve.specs.Standing.{IsPossible};
+ghost use Rattle.px_sieve.specs.declared.segment.Segment.TheVariants.{Whole};
+
+use crate::segment::Segment;
+use px_cmd::number::AUTH;
+use px_frame::{Body, Frame, write_packet};
+use px_tag::TagReader;
+use px_types::{Mem, NoMemory, Text};
+use std::alloc::Global;
+
+/// A piece of a connection's bytes, as it is handed out.
+#[derive(Debug, Drop)]
+pub enum Piece {
+    /// The bytes of a frame that the world handles, in its canonical spelling, or of a descriptor that breaks a rule.
+    Pass(Text),
+    /// A control frame of one of the mode's own commands, from a connection that is let in.
+    Own(Frame),
+    /// A data frame.
+    Write(Frame),
+}
+
+// The command of a control packet. Takes no memory.
+fn command_in(packet: &[u8]) -> Option<u32>
+    ensures { result ≡ command_in packet.now }
+{
+    match TagReader::new(packet).number() {
+        Ok(command) => Some(command),
+        Err(_) => None,
+    }
+}
+
+// Whether a control packet is the mode's own. Takes no memory.
+fn is_own(own: &[u32], let_in: bool, packet: &[u8]) -> bool
+    ensures { result ≡ is_own own.now let_in packet.now }
+{
+    if !let_in {
+        return false;
+    }
+    match command_in(packet) {
+        Some(command) => own.contains(&command),
+        None => false,
+    }
+}
+
+// Whether a control packet is an AUTH. Takes no memory.
+fn is_auth(packet: &[u8]) -> bool
+    ensures { result ≡ is_auth (command_in packet.now) }
+{
+    match command_in(packet) {
+        Some(command) => command == AUTH,
+        None => false,
+    }
+}
+
+/// Whether a segment is an AUTH that is passed on. Takes no memory.
+pub(crate) fn asks(own: &[u32], let_in: bool, segment: &Segment) -> bool
+    ensures { result ≡ asks own.now let_in segment.now }
+{
+    match segment {
+        Segment::Whole(frame) => match &frame.body {
+            Body::Control(packet) => {
+                is_auth(packet.bytes()) && !is_own(own, let_in, packet.bytes())
+            }
+            Body::Write { .. } => false,
+        },
+        Segment::Faulty { .. } => false,
+    }
+}
+
+// The canonical spelling of a control packet.
+fn spelled(alloc: Global, packet: &[u8]) -> Mem<Text>
+    requires some { 0 < length packet.now }
+    requires few { length packet.now ≤ MAX_PAYLOAD }
+    ensures { IfOk result (λ text. text ≡ spelling_of (Control packet.now)) }
+{
+    match write_packet(alloc, packet) {
+        Ok(frame) => Ok(Text::from_vec(frame.into_vec())),
+        Err(_) => Err(NoMemory),
+    }
+}
+
+// What becomes of a frame.
+fn sort_frame(alloc: Global, own: &[u32], let_in: bool, frame: Frame) -> Mem<Piece>
+    requires { IsPossible (Whole frame) }
+    ensures { IfOk result (λ piece. piece ≡ sorted own.now let_in (Whole frame)) }
+{
+    match &frame.body {
+        Body::Write { .. } => Ok(Piece::Write(frame)),
+        Body::Control(packet) => {
+            if is_own(own, let_in, packet.bytes()) {
+                return Ok(Piece::Own(frame));
+            }
+            Ok(Piece::Pass(spelled(alloc, packet.bytes())?))
+        }
+    }
+}
+
+/// What becomes of a segment.
+pub(crate) fn sort(alloc: Global, own: &[u32], let_in: bool, segment: Segment) -> Mem<Piece>
+    requires { IsPossible segment }
+    ensures { IfOk result (λ piece. piece ≡ sorted own.now let_in segment) }
+{
+    match segment {
+        Segment::Whole(frame) => sort_frame(alloc, own, let_in, frame),
+        Segment::Faulty { twenty, .. } => Ok(Piece::Pass(twenty)),
+    }
+}
