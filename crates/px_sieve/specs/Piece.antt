@@ -1,5 +1,5 @@
 -- Which segments a mode handles itself, and which it passes on.
-use Rattle.std.specs.Prelude.{ℕ, Bool, false, cond, not, ◌&&◌, nat_eq, List, Option, None, Some, Result, Ok, Err}
+use Rattle.std.specs.Prelude.{ℕ, Bool, false, cond, not, ◌&&◌, nat_eq, drop, List, Option, None, Some, Result, Ok, Err}
 use Rattle.std.specs.List.{list_any}
 use Rattle.px_tag.specs.declared.fault.TagFault.{TagFault}
 use Rattle.px_tag.specs.Place.{Place, start_of}
@@ -40,18 +40,26 @@ abbrev pub sorted : List ℕ → Bool → Segment → Piece
 sorted own let_in (Whole frame) = sorted_frame own let_in frame frame.body
 sorted own let_in (Faulty twenty fault at) = Pass twenty
 
--- ---- the command AUTH
+-- ---- the commands AUTH and REPLY
 
 abbrev pub AUTH : ℕ
 AUTH = 8
 
-abbrev pub is_auth : Option ℕ → Bool
-is_auth None = false
-is_auth (Some command) = nat_eq command AUTH
+abbrev pub REPLY : ℕ
+REPLY = 2
+
+-- a packet has this command
+abbrev pub is_command : ℕ → Option ℕ → Bool
+is_command number None = false
+is_command number (Some command) = nat_eq command number
+
+-- a whole frame, with the twenty bytes of its descriptor, is a reply
+abbrev pub is_reply : List ℕ → Bool
+is_reply frame = is_command REPLY (command_in (drop 20 frame))
 
 -- whether a segment is an AUTH that is passed on
 abbrev pub asks_in : List ℕ → Bool → Body → Bool
-asks_in own let_in (Control packet) = is_auth (command_in packet) && not (is_own own let_in packet)
+asks_in own let_in (Control packet) = is_command AUTH (command_in packet) && not (is_own own let_in packet)
 asks_in own let_in (write stream offset seek bytes) = false
 
 abbrev pub asks : List ℕ → Bool → Segment → Bool

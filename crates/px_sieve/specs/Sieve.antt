@@ -8,7 +8,7 @@ use Rattle.px_state.specs.declared.effect.Effect.TheVariants.{Sent, Closed}
 use Rattle.px_sieve.specs.declared.segment.Segment.{Segment}
 use Rattle.px_sieve.specs.declared.piece.Piece.{Piece}
 use Rattle.px_sieve.specs.Segment.{new_segments}
-use Rattle.px_sieve.specs.Piece.{sorted, asks}
+use Rattle.px_sieve.specs.Piece.{sorted, asks, is_reply}
 
 pub record Heard : Type 0 where
   pub conn : ConnId
@@ -87,10 +87,6 @@ abbrev pub after_next : Sieve → ConnId → Sieve
 after_next s conn = record s { heard = changed first_taken conn s.heard; asked = asked_from s.own (heard_of s.heard conn) conn s.asked }
 
 -- ---- effects are seen
-
--- a frame whose payload begins with the number 2, of a reply
-abbrev pub is_reply : List ℕ → Bool
-is_reply packet = take 5 (drop 20 packet) == 0x4C ∷ 0 ∷ 0 ∷ 0 ∷ 2 ∷ []
 
 abbrev pub is_asked : Option ConnId → ConnId → Bool
 is_asked None conn = false

@@ -4,7 +4,7 @@ ghost use Rattle.std.specs.Prelude.{◌≡◌, ◌<◌, ◌≤◌, length, IfOk}
 ghost use Rattle.px_types.specs.declared.limits.TheConstants.{MAX_PAYLOAD};
 ghost use Rattle.px_frame.specs.declared.frame.Body.TheVariants.{Control};
 ghost use Rattle.px_frame.specs.Spelling.{spelling_of};
-ghost use Rattle.px_sieve.specs.Piece.{command_in, is_among, is_own, is_auth, sorted, asks};
+ghost use Rattle.px_sieve.specs.Piece.{command_in, is_among, is_own, is_command, is_reply, sorted, asks};
 ghost use Rattle.px_sieve.specs.Standing.{IsPossible};
 ghost use Rattle.px_sieve.specs.declared.segment.Segment.TheVariants.{Whole};
 
@@ -14,6 +14,9 @@ use px_frame::{Body, Frame, write_packet};
 use px_tag::TagReader;
 use px_types::{Mem, NoMemory, Text};
 use std::alloc::Global;
+
+// The command of a reply.
+const REPLY: u32 = 2;
 
 /// A piece of a connection's bytes, as it is handed out.
 #[derive(Debug, Drop)]
@@ -49,14 +52,21 @@ fn is_own(own: &[u32], let_in: bool, packet: &[u8]) -> bool
     }
 }
 
-// Whether a control packet is an AUTH. Takes no memory.
-fn is_auth(packet: &[u8]) -> bool
-    ensures { result ≡ is_auth (command_in packet.now) }
+// Whether a control packet has this command. Takes no memory.
+fn is_command(number: u32, packet: &[u8]) -> bool
+    ensures { result ≡ is_command number (command_in packet.now) }
 {
     match command_in(packet) {
-        Some(command) => command == AUTH,
+        Some(command) => command == number,
         None => false,
     }
+}
+
+/// Whether a whole frame is a reply. Takes no memory.
+pub(crate) fn is_reply(frame: &[u8]) -> bool
+    ensures { result ≡ is_reply frame.now }
+{
+    is_command(REPLY, &frame[frame.len().min(20)..])
 }
 
 /// Whether a segment is an AUTH that is passed on. Takes no memory.
@@ -66,7 +76,7 @@ pub(crate) fn asks(own: &[u32], let_in: bool, segment: &Segment) -> bool
     match segment {
         Segment::Whole(frame) => match &frame.body {
             Body::Control(packet) => {
-                is_auth(packet.bytes()) && !is_own(own, let_in, packet.bytes())
+                is_command(AUTH, packet.bytes()) && !is_own(own, let_in, packet.bytes())
             }
             Body::Write { .. } => false,
         },

@@ -4,11 +4,11 @@ ghost use Rattle.std.specs.Prelude.{◌≡◌, ℕ, List, [], ◌∷◌, ◌++�
 ghost use Rattle.std.specs.List.{position, AllByRecursion};
 ghost use Rattle.px_types.specs.declared.ids.ConnId.{ConnId};
 ghost use Rattle.px_sieve.specs.declared.line.Line.{Line};
-ghost use Rattle.px_sieve.specs.Sieve.{Heard, Sieve as SpecSieve, new_sieve, pass, heard_of, heard_by, changed, first_taken, next, after_next, is_reply, is_asked, set_in, seen_one, seen_all, seen, forget, asked_still, piece_from, asked_from};
+ghost use Rattle.px_sieve.specs.Sieve.{Heard, Sieve as SpecSieve, new_sieve, pass, heard_of, heard_by, changed, first_taken, next, after_next, is_asked, set_in, seen_one, seen_all, seen, forget, asked_still, piece_from, asked_from};
 ghost use Rattle.px_sieve.specs.Standing.{StandsFor, AreHeard, ArePossible, is_line};
 
 use crate::line::{Line, hear, unheard};
-use crate::piece::{Piece, asks, sort};
+use crate::piece::{Piece, asks, is_reply, sort};
 use px_state::{Effect, Effects};
 use px_types::{ConnId, Mem};
 use std::alloc::Global;
@@ -68,18 +68,6 @@ fn is_asked(asked: Option<ConnId>, conn: ConnId) -> bool
         Some(asked) => asked.0 == conn.0,
         None => false,
     }
-}
-
-// Whether a whole frame is a reply. Takes no memory.
-fn is_reply(packet: &[u8]) -> bool
-    ensures { result ≡ is_reply packet.now }
-{
-    packet.len() >= 25
-        && packet[20] == 0x4C
-        && packet[21] == 0
-        && packet[22] == 0
-        && packet[23] == 0
-        && packet[24] == 2
 }
 
 // Connection `conn` is let in, or isn't any longer. Takes no memory.
