@@ -1,5 +1,5 @@
 -- The segments that a feed gives are those that a connection's bytes newly have.
-use Rattle.std.proofs.Common.{◌≡◌, ℕ, ◌+◌, ◌-◌, ◌<◌, ◌≤◌, ◌^◌, List, [], ◌∷◌, ◌++◌, map, length, take, drop, cond, refl, ap, sym, subst, ◌∙◌, append-nil, arith, Result, Ok, Err, Some, None, ⊎_elim, drop-drop}
+use Rattle.std.proofs.Common.{◌≡◌, ℕ, ◌+◌, ◌-◌, ◌<◌, ◌≤◌, ◌^◌, List, [], ◌∷◌, ◌++◌, map, length, take, drop, cond, refl, ap, sym, subst, ◌∙◌, append-nil, arith, Result, Ok, Err, Some, None, ⊎_elim, inl, inr, drop-drop}
 use Rattle.std.proofs.lemmas.Bool.{cond_both}
 use Rattle.std.proofs.lemmas.List.{append_assoc, length-append, length-map, map-append, drop-append-le, take-append-le, drop_at}
 use Rattle.std.proofs.Math.Seq.{drop-append_seam, drop-length}
@@ -42,7 +42,7 @@ size-frames start (w ∷ ws) =
     ∙ sym (length-append (wire_bytes w) (flat_map wire_bytes ws))
 
 pub size-append : (fs gs : List Frame) → size_of_all (fs ++ gs) ≡ size_of_all fs + size_of_all gs
-size-append [] gs = refl
+size-append [] gs = omega arith
 size-append (f ∷ fs) gs = let h = size-append fs gs in omega (arith, h)
 
 -- ---- the rest after whole frames
@@ -219,7 +219,7 @@ module _ (received piece : List ℕ) (fault : FrameFault) (at : ℕ) (was : IsRe
       let frames : frames_in (received ++ piece) ≡ frames_in received = sym (read-only (received ++ piece) (frames_in received) (Broken fault at) now-failed).0 in
       let rest : was.1 ≡ rest_in received = rest-is received was.1 (frames_in received) was.0 was.2 in
       let long : 20 ≤ length (rest_in received) =
-      omega (arith, ap length (sym rest ∙ was.3.1.2.1), length-append (descriptor_bytes was.3.1.0) was.3.1.1, length-descriptor_bytes was.3.1.0) in
+      omega (arith, ap length (sym rest ∙ was.3.1.3), length-append (descriptor_bytes was.3.1.0) was.3.1.1, length-descriptor_bytes was.3.1.0) in
       ap (λ fs. take 20 (drop (size_of_all fs) (received ++ piece))) frames
       ∙ ap (take 20) (drop-append-le (size_of_all (frames_in received)) received piece (size-fits received was.1 (frames_in received) was.0 was.2))
       ∙ take-append-le 20 (rest_in received) piece long

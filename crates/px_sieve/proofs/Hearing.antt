@@ -1,5 +1,6 @@
 -- A line hears more bytes: what a feed of them gave is added.
-use Rattle.std.proofs.Common.{◌≡◌, ℕ, List, [], ◌∷◌, ◌++◌, map, take, drop, refl, ap, sym, subst, ◌∙◌, append-nil, Result, Ok, Err}
+use Rattle.std.proofs.Common.{◌≡◌, ℕ, Bool, false, List, [], ◌∷◌, ◌++◌, length, map, take, drop, refl, ap, sym, subst, ◌∙◌, append-nil, Result, Ok, Err}
+use Rattle.px_types.specs.declared.ids.ConnId.{ConnId}
 use Rattle.px_frame.specs.declared.fault.FrameError.{FrameError}
 use Rattle.px_frame.specs.declared.fault.FrameError.TheVariants.{Fault, Failed, NoMemory}
 use Rattle.px_frame.specs.declared.fault.FrameFault.{FrameFault}
@@ -13,7 +14,7 @@ use Rattle.px_frame.proofs.ReadingLemmas.{reading-unique}
 use Rattle.px_sieve.specs.declared.line.Line.{Line}
 use Rattle.px_sieve.specs.declared.segment.Segment.TheVariants.{Whole, Faulty}
 use Rattle.px_sieve.specs.Segment.{size_of_all, rest_in, new_segments}
-use Rattle.px_sieve.specs.Sieve.{Heard, heard_more}
+use Rattle.px_sieve.specs.Sieve.{Heard, heard_more, unheard}
 use Rattle.px_sieve.specs.Standing.{Hears, IsRest, Adds}
 use Rattle.px_sieve.proofs.Cutting.{short-before, rest-now, ending-was, ending-now, segments-given, segments-none, ending-failed}
 
@@ -30,12 +31,12 @@ read-before (Stopped fault at) received piece before frames fed read =
 read-before Lost received piece before frames fed read = absurd fed
 
 -- the frames given are those of the bytes
-fed-frames : (p : Progress) (received : List ℕ) (frames : List Frame) → HasFed p received frames → frames ≡ frames_in received
+pub fed-frames : (p : Progress) (received : List ℕ) (frames : List Frame) → HasFed p received frames → frames ≡ frames_in received
 fed-frames (Within start held) received frames fed = (read-only received frames Unfinished (read-fed fed)).0
 fed-frames (Stopped fault at) received frames fed = (read-only received frames (Broken fault at) fed).0
 fed-frames Lost received frames fed = absurd fed
 
-given-all : (p : Progress) (received : List ℕ) (frames : List Frame) → HasFed p received frames → HasFed p received (frames_in received)
+pub given-all : (p : Progress) (received : List ℕ) (frames : List Frame) → HasFed p received frames → HasFed p received (frames_in received)
 given-all p received frames fed = subst (HasFed p received) (fed-frames p received frames fed) fed
 
 -- ---- a feed
@@ -75,3 +76,17 @@ module _ (line next : Line) (h : Heard) (bytes : List ℕ) (hears : Hears line h
     let_in = in_same ∙ hears.let_in;
   }
   hears-more (Err NoMemory) answers leaves adds = absurd adds
+
+-- ---- before its first bytes
+
+pub hears-unheard : (line : Line) (conn : ConnId) → line.conn ≡ conn → HasFed line.decoder [] [] → line.rest.count ≡ 0 → line.rest.first.items ≡ [] → line.waiting.items ≡ [] → line.let_in ≡ false
+    → Hears line (unheard conn)
+hears-unheard line conn same fed count first waiting out =
+    let none : rest_in [] ≡ [] = ap (λ fs. drop (size_of_all fs) []) (sym (fed-frames line.decoder [] [] fed)) in
+    record {
+      same = same;
+      fed = given-all line.decoder [] [] fed;
+      rest = λ e. record { count = count ∙ sym (ap (λ l. length l) none); first = first ∙ sym (ap (take 20) none) };
+      waiting = waiting;
+      let_in = out;
+    }

@@ -2,3 +2,4 @@ pub mod Segment
 pub mod Piece
 pub mod Sieve
 pub mod Standing
+pub mod Scene

@@ -59,32 +59,36 @@ pass s conn bytes = record s { heard = heard_by (heard_of s.heard conn) conn byt
 
 -- ---- the next piece
 
-abbrev pub piece_of : List ℕ → Bool → List Segment → Option Piece
-piece_of own let_in [] = None
-piece_of own let_in (segment ∷ waiting) = Some (sorted own let_in segment)
+-- the first segment that waits, and whether its connection is let in
+abbrev pub first_in : Bool → List Segment → Option (Segment × Bool)
+first_in let_in [] = None
+first_in let_in (segment ∷ waiting) = Some (segment, let_in)
 
-abbrev pub piece_from : List ℕ → Option Heard → Option Piece
+abbrev pub first_of : Option Heard → Option (Segment × Bool)
+first_of None = None
+first_of (Some h) = first_in h.let_in h.waiting
+
+abbrev pub piece_from : List ℕ → Option (Segment × Bool) → Option Piece
 piece_from own None = None
-piece_from own (Some h) = piece_of own h.let_in h.waiting
+piece_from own (Some first) = Some (sorted own first.1 first.0)
 
 -- the piece that is handed out next, if one is left
 abbrev pub next : Sieve → ConnId → Option Piece
-next s conn = piece_from s.own (heard_of s.heard conn)
+next s conn = piece_from s.own (first_of (heard_of s.heard conn))
 
 -- the connection, where that piece asks to be let in
-abbrev pub asked_of : List ℕ → Bool → ConnId → List Segment → Option ConnId → Option ConnId
-asked_of own let_in conn [] asked = asked
-asked_of own let_in conn (segment ∷ waiting) asked = cond (asks own let_in segment) (Some conn) None
+abbrev pub asked_by : List ℕ → ConnId → Segment × Bool → Option ConnId
+asked_by own conn first = cond (asks own first.1 first.0) (Some conn) None
 
-abbrev pub asked_from : List ℕ → Option Heard → ConnId → Option ConnId → Option ConnId
-asked_from own None conn asked = asked
-asked_from own (Some h) conn asked = asked_of own h.let_in conn h.waiting asked
+abbrev pub asked_from : List ℕ → ConnId → Option (Segment × Bool) → Option ConnId → Option ConnId
+asked_from own conn None asked = asked
+asked_from own conn (Some first) asked = asked_by own conn first
 
 abbrev pub first_taken : Heard → Heard
 first_taken h = record h { waiting = drop 1 h.waiting }
 
 abbrev pub after_next : Sieve → ConnId → Sieve
-after_next s conn = record s { heard = changed first_taken conn s.heard; asked = asked_from s.own (heard_of s.heard conn) conn s.asked }
+after_next s conn = record s { heard = changed first_taken conn s.heard; asked = asked_from s.own conn (first_of (heard_of s.heard conn)) s.asked }
 
 -- ---- effects are seen
 

@@ -1,5 +1,5 @@
 -- A sieve as it runs: of each connection it holds no bytes, only the state of its decoder, and of the frame that hasn't ended its first bytes.
-use Rattle.std.specs.Prelude.{◌≡◌, ℕ, ◌^◌, ◌<◌, ◌≤◌, Bool, nat_eq, List, [], ◌∷◌, ◌++◌, length, map, take, drop, Option, Result, Ok, Err}
+use Rattle.std.specs.Prelude.{◌≡◌, ℕ, ◌+◌, ◌^◌, ◌<◌, ◌≤◌, Bool, cond, nat_eq, List, [], ◌∷◌, ◌++◌, length, map, take, drop, Option, Result, Ok, Err}
 use Rattle.std.specs.List.{AllByRecursion}
 use Rattle.px_types.specs.declared.ids.ConnId.{ConnId}
 use Rattle.px_frame.specs.declared.fault.FrameError.{FrameError}
@@ -13,6 +13,8 @@ use Rattle.px_sieve.specs.declared.line.Line.{Line}
 use Rattle.px_sieve.specs.declared.rest.Rest.{Rest}
 use Rattle.px_sieve.specs.declared.segment.Segment.{Segment}
 use Rattle.px_sieve.specs.declared.segment.Segment.TheVariants.{Whole, Faulty}
+use Rattle.px_sieve.specs.declared.piece.Piece.{Piece}
+use Rattle.px_sieve.specs.declared.piece.Piece.TheVariants.{Pass, Own, Write}
 use Rattle.px_sieve.specs.Segment.{size_of, size_of_all, rest_in}
 use Rattle.px_sieve.specs.Sieve.{Heard, Sieve}
 
@@ -23,6 +25,10 @@ pub record Sifting : Type 0 where
 
 abbrev pub is_line : ConnId → Line → Bool
 is_line conn line = nat_eq line.conn.0 conn.0
+
+-- a line that is of a connection is let in, or isn't any longer
+abbrev pub line_set : ConnId → Bool → Line → Line
+line_set conn on line = cond (is_line conn line) (record line { let_in = on }) line
 
 -- these are the bytes after the whole frames
 pub record IsRest (rest : Rest) (bytes : List ℕ) : Type 0 where
@@ -67,6 +73,17 @@ Adds rest waiting bytes (Err NoMemory) rest' waiting' = ⊥
 abbrev pub IsPossible : Segment → Type 0
 IsPossible (Whole frame) = IsBody frame.body
 IsPossible (Faulty twenty fault at) = Unit {0}
+
+-- so has a piece
+abbrev pub IsPossiblePiece : Piece → Type 0
+IsPossiblePiece (Pass bytes) = Unit {0}
+IsPossiblePiece (Own frame) = IsBody frame.body
+IsPossiblePiece (Write frame) = IsBody frame.body
+
+-- how many segments wait
+abbrev pub left_in : List Line → ℕ
+left_in [] = 0
+left_in (line ∷ lines) = length (Line.waiting line).items + left_in lines
 
 abbrev pub ArePossible : List Line → Type 0
 ArePossible lines = AllByRecursion (λ line. AllByRecursion IsPossible (Line.waiting line).items) lines

@@ -1,12 +1,12 @@
 //! One connection of a sieve.
 
-ghost use Rattle.std.specs.Prelude.{◌≡◌, ◌++◌, [], ◌∷◌, All, map, OnOk};
+ghost use Rattle.std.specs.Prelude.{◌≡◌, ◌++◌, [], ◌∷◌, All, map, OnOk, IfSome, Some, length, ◌<◌};
 ghost use Rattle.std.specs.List.{AllByRecursion};
 ghost use Rattle.px_types.specs.declared.ids.ConnId.{ConnId};
 ghost use Rattle.px_frame.specs.Frame.{IsBody};
 ghost use Rattle.px_frame.specs.Progress.{GivesBodies};
 ghost use Rattle.px_sieve.specs.declared.segment.Segment.TheVariants.{Whole, Faulty};
-ghost use Rattle.px_sieve.specs.Sieve.{Heard, heard_more, unheard};
+ghost use Rattle.px_sieve.specs.Sieve.{Heard, heard_more, unheard, first_taken, first_of};
 ghost use Rattle.px_sieve.specs.Standing.{Hears, Adds, IsPossible};
 
 use crate::rest::{Rest, go_on};
@@ -115,5 +115,21 @@ pub(crate) fn hear(line: &mut Line, alloc: Global, bytes: &[u8]) -> Mem<()>
 {
     let mut blocks = Fresh::new(alloc);
     let given = line.decoder.feed(bytes, &mut blocks);
-    add_given(alloc, &mut line.rest, &mut line.waiting, bytes, given)
+    add_given(alloc, &mut line.rest, &mut line.waiting, bytes, given)?;
+    Ok(())
+}
+
+/// Takes the first segment that waits, with whether the connection is let in. Takes no memory.
+pub(crate) fn take_first(line: &mut Line) -> Option<(Segment, bool)>
+    requires { AllByRecursion IsPossible line.old.waiting.items }
+    ensures hears { (h : Heard) → Hears line.old h → Hears line.new (first_taken h) }
+    ensures first { (h : Heard) → Hears line.old h → result ≡ first_of (Some h) }
+    ensures possible { AllByRecursion IsPossible line.new.waiting.items }
+    ensures segment { IfSome result (λ first. IsPossible first.0) }
+    ensures fewer { IfSome result (λ _. length line.new.waiting.items < length line.old.waiting.items) }
+{
+    match line.waiting.pop_front() {
+        Some(segment) => Some((segment, line.let_in)),
+        None => None,
+    }
 }

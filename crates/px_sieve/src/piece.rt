@@ -1,18 +1,16 @@
 //! The pieces that a sieve hands out.
 
-ghost use Rattle.std.specs.Prelude.{◌≡◌, ◌<◌, ◌≤◌, length, IfOk};
-ghost use Rattle.px_types.specs.declared.limits.TheConstants.{MAX_PAYLOAD};
-ghost use Rattle.px_frame.specs.declared.frame.Body.TheVariants.{Control};
-ghost use Rattle.px_frame.specs.Spelling.{spelling_of};
+ghost use Rattle.std.specs.Prelude.{◌≡◌, IfOk};
 ghost use Rattle.px_sieve.specs.Piece.{command_in, is_among, is_own, is_command, is_reply, sorted, asks};
-ghost use Rattle.px_sieve.specs.Standing.{IsPossible};
+ghost use Rattle.px_sieve.specs.Standing.{IsPossible, IsPossiblePiece};
 ghost use Rattle.px_sieve.specs.declared.segment.Segment.TheVariants.{Whole};
 
 use crate::segment::Segment;
+use crate::spelling::spelled;
 use px_cmd::number::AUTH;
-use px_frame::{Body, Frame, write_packet};
+use px_frame::{Body, Frame};
 use px_tag::TagReader;
-use px_types::{Mem, NoMemory, Text};
+use px_types::{Mem, Text};
 use std::alloc::Global;
 
 // The command of a reply.
@@ -84,22 +82,11 @@ pub(crate) fn asks(own: &[u32], let_in: bool, segment: &Segment) -> bool
     }
 }
 
-// The canonical spelling of a control packet.
-fn spelled(alloc: Global, packet: &[u8]) -> Mem<Text>
-    requires some { 0 < length packet.now }
-    requires few { length packet.now ≤ MAX_PAYLOAD }
-    ensures { IfOk result (λ text. text ≡ spelling_of (Control packet.now)) }
-{
-    match write_packet(alloc, packet) {
-        Ok(frame) => Ok(Text::from_vec(frame.into_vec())),
-        Err(_) => Err(NoMemory),
-    }
-}
-
 // What becomes of a frame.
 fn sort_frame(alloc: Global, own: &[u32], let_in: bool, frame: Frame) -> Mem<Piece>
     requires { IsPossible (Whole frame) }
-    ensures { IfOk result (λ piece. piece ≡ sorted own.now let_in (Whole frame)) }
+    ensures value { IfOk result (λ piece. piece ≡ sorted own.now let_in (Whole frame)) }
+    ensures possible { IfOk result IsPossiblePiece }
 {
     match &frame.body {
         Body::Write { .. } => Ok(Piece::Write(frame)),
@@ -107,7 +94,7 @@ fn sort_frame(alloc: Global, own: &[u32], let_in: bool, frame: Frame) -> Mem<Pie
             if is_own(own, let_in, packet.bytes()) {
                 return Ok(Piece::Own(frame));
             }
-            Ok(Piece::Pass(spelled(alloc, packet.bytes())?))
+            Ok(Piece::Pass(spelled(alloc, &frame.body)?))
         }
     }
 }
@@ -115,7 +102,8 @@ fn sort_frame(alloc: Global, own: &[u32], let_in: bool, frame: Frame) -> Mem<Pie
 /// What becomes of a segment.
 pub(crate) fn sort(alloc: Global, own: &[u32], let_in: bool, segment: Segment) -> Mem<Piece>
     requires { IsPossible segment }
-    ensures { IfOk result (λ piece. piece ≡ sorted own.now let_in segment) }
+    ensures value { IfOk result (λ piece. piece ≡ sorted own.now let_in segment) }
+    ensures possible { IfOk result IsPossiblePiece }
 {
     match segment {
         Segment::Whole(frame) => sort_frame(alloc, own, let_in, frame),

@@ -65,8 +65,11 @@ pub(crate) fn go_on(rest: &mut Rest, alloc: Global, bytes: &[u8], frames: &[Fram
     let all = rest.count.saturating_add(bytes.len() as u128);
     rest.count = left_after(all, frames);
     if frames.is_empty() {
-        return fill(&mut rest.first, bytes);
+        fill(&mut rest.first, bytes)?;
+        return Ok(());
     }
-    rest.first = Vec::new(alloc);
-    fill(&mut rest.first, last(bytes, rest.count))
+    let mut first = Vec::new(alloc);
+    fill(&mut first, last(bytes, rest.count))?;
+    rest.first = first;
+    Ok(())
 }
