@@ -10,6 +10,7 @@ ghost use Rattle.px_types.specs.ErrorCode.{code_of};
 ghost use Rattle.px_monitor.specs.declared.answer.Answer.TheVariants.{Packet as Answered};
 ghost use Rattle.px_outcome.specs.Target.{IsTarget};
 ghost use Rattle.px_cmd.specs.Packet.{head_at, HeadGives};
+ghost use Rattle.px_monitor.specs.Fragments.{sent_of};
 ghost use Rattle.px_monitor.specs.Records.{no_records, monitor_of, sources_of, streams_of, is_by, is_stream, counts_for, count_of, other_counts, with_count, with_stream, without_stream, without_conn, IsRecording};
 ghost use Rattle.px_monitor.specs.Create.{has_room, fragsize_of, made, create, delete, handled, replied, answer, IsDone, IsAnswer};
 
@@ -17,6 +18,7 @@ use crate::answer::Answer;
 use crate::checks::{is_lawful, is_supported, named};
 use crate::command::{Request, read_request};
 use crate::fields::RecordFields;
+use crate::fragments::sent;
 use crate::recording::{Count, Recording};
 use crate::reply;
 use px_cmd::{CmdFault, Head};
@@ -24,9 +26,10 @@ use px_header::Header;
 use px_outcome::{Refusal, Target, check};
 use px_sample::Spec;
 use px_sinks::targets_of;
+use px_state::Effects;
 use px_tag::{Packet, TagFault, TagReader};
 use px_types::limits::{MAX_LENGTH, NO_INDEX};
-use px_types::{ConnId, ErrorCode, Mem, NoMemory, Text};
+use px_types::{ConnId, ErrorCode, Mem, NoMemory, SinkId, Text};
 use std::alloc::Global;
 use std::marker::Model;
 
@@ -42,7 +45,8 @@ pub struct Recorded {
 impl Model for Recorded {
     ghost use Rattle.std.specs.List.{AllByRecursion};
     ghost use Rattle.px_outcome.specs.Target.{IsTarget};
-    ghost use Rattle.px_monitor.specs.Records.{Records, IsRecording};
+    ghost use Rattle.px_monitor.specs.Fragments.{sent_of};
+ghost use Rattle.px_monitor.specs.Records.{Records, IsRecording};
 
     ghost Value = { Records };
 
@@ -143,14 +147,16 @@ fn set_count(counts: &mut Vec<Count>, conn: ConnId, streams: u32)
 
 // Drops a record stream.
 fn drop_stream(streams: &mut Vec<Recording>, conn: ConnId, stream: u32)
-    ensures { streams.new.items ≡ filter (λ r. not (is_stream conn stream r)) streams.old.items }
+    ensures items { streams.new.items ≡ filter (λ r. not (is_stream conn stream r)) streams.old.items }
+    ensures lawful { AllByRecursion IsRecording streams.old.items → AllByRecursion IsRecording streams.new.items }
 {
     streams.retain(|r| !(r.conn.0 == conn.0 && r.stream == stream));
 }
 
 // Drops the record streams of a connection.
 fn drop_streams(streams: &mut Vec<Recording>, conn: ConnId)
-    ensures { streams.new.items ≡ filter (λ r. not (is_by conn r)) streams.old.items }
+    ensures items { streams.new.items ≡ filter (λ r. not (is_by conn r)) streams.old.items }
+    ensures lawful { AllByRecursion IsRecording streams.old.items → AllByRecursion IsRecording streams.new.items }
 {
     streams.retain(|r| r.conn.0 != conn.0);
 }
@@ -240,6 +246,7 @@ impl Recorded {
     }
 
     // The record stream that a connection asks for, and the reply.
+    #[tactic(auto, using(crate::proofs::Kept::named_is))]
     fn made(
         &self,
         alloc: Global,
@@ -376,6 +383,14 @@ impl Recorded {
             }
             Err(CmdFault::NoMemory) => Err(NoMemory),
         }
+    }
+
+    /// The data frames of all record streams of a sink for bytes that it played, in order of creation, each stream's in frames of its
+    /// `fragsize` bytes, the last one shorter.
+    pub fn sent(&self, alloc: Global, sink: SinkId, bytes: &[u8]) -> Mem<Effects>
+        ensures { IfOk result (λ effects. effects ≡ sent_of sink bytes.now self.now.streams) }
+    {
+        sent(alloc, self.streams.as_slice(), sink, bytes)
     }
 
     /// Drops the record streams of a connection that is closed, and forgets how many it has created. Takes no memory.
