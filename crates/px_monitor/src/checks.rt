@@ -104,8 +104,7 @@ fn are_own_channels(source: &Target, a: &RecordFields) -> bool
     ensures { result ≡ are_own_channels source.now a.now }
 {
     a.fix_channels
-        || a.spec.channels == source.spec.channels
-            && a.map.as_slice() == source.map.positions()
+        || a.spec.channels == source.spec.channels && a.map.as_slice() == source.map.positions()
 }
 
 // Whether nothing is asked for that no source does.
@@ -124,8 +123,5 @@ fn is_plain(a: &RecordFields) -> bool
 pub(crate) fn is_supported(source: &Target, a: &RecordFields) -> bool
     ensures { result ≡ is_supported source.now a.now }
 {
-    is_plain(a)
-        && is_own_format(source, a)
-        && is_own_rate(source, a)
-        && are_own_channels(source, a)
+    is_plain(a) && is_own_format(source, a) && is_own_rate(source, a) && are_own_channels(source, a)
 }

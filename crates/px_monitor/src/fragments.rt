@@ -45,12 +45,7 @@ fn push_where(
 }
 
 /// The data frames of all these record streams for bytes that a sink played, in order.
-pub(crate) fn sent(
-    alloc: Global,
-    streams: &[Recording],
-    sink: SinkId,
-    bytes: &[u8],
-) -> Mem<Effects>
+pub(crate) fn sent(alloc: Global, streams: &[Recording], sink: SinkId, bytes: &[u8]) -> Mem<Effects>
     requires { AllByRecursion IsRecording streams.now }
     ensures { IfOk result (λ effects. effects ≡ sent_of sink bytes.now streams.now) }
 {

@@ -8,7 +8,6 @@ mod checks;
 mod command;
 mod fields;
 mod fragments;
-
 mod recorded;
 mod recording;
 mod reply;
@@ -17,7 +16,6 @@ pub use answer::Answer;
 pub use command::{Request, read_request};
 pub use fields::RecordFields;
 pub use fragments::{fragments_join, push_data};
-
 pub use recorded::Recorded;
 pub use recording::Recording;
 

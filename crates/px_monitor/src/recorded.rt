@@ -1,6 +1,6 @@
 //! The table of record streams.
 
-ghost use Rattle.std.specs.Prelude.{◌≡◌, ◌+◌, ◌<◌, ◌≤◌, ◌++◌, ◌∷◌, [], true, not, map, length, filter, find, vec_len, vec_capacity, IfOk, OnOk, OnErr};
+ghost use Rattle.std.specs.Prelude.{◌≡◌, ◌+◌, ◌<◌, ◌≤◌, ◌++◌, ◌∷◌, [], List, All, true, not, map, length, filter, find, vec_len, vec_capacity, IfOk, OnOk, OnErr};
 ghost use Rattle.std.specs.List.{AllByRecursion, list_any};
 ghost use Rattle.std.specs.Option.{option_map};
 ghost use Rattle.px_header.specs.HeaderRules.{IsHeader};
@@ -9,6 +9,7 @@ ghost use Rattle.px_reply.specs.Front.{refusal};
 ghost use Rattle.px_types.specs.ErrorCode.{code_of};
 ghost use Rattle.px_monitor.specs.declared.answer.Answer.TheVariants.{Packet as Answered};
 ghost use Rattle.px_outcome.specs.Target.{IsTarget};
+ghost use Rattle.px_outcome.specs.declared.target.Target.{Target as Aim};
 ghost use Rattle.px_cmd.specs.Packet.{head_at, HeadGives};
 ghost use Rattle.px_monitor.specs.Fragments.{sent_of};
 ghost use Rattle.px_monitor.specs.Records.{no_records, monitor_of, sources_of, streams_of, is_by, is_stream, counts_for, count_of, other_counts, with_count, with_stream, without_stream, without_conn, IsRecording};
@@ -43,16 +44,17 @@ pub struct Recorded {
 }
 
 impl Model for Recorded {
+    ghost use Rattle.std.specs.Prelude.{All};
     ghost use Rattle.std.specs.List.{AllByRecursion};
     ghost use Rattle.px_outcome.specs.Target.{IsTarget};
     ghost use Rattle.px_monitor.specs.Fragments.{sent_of};
-ghost use Rattle.px_monitor.specs.Records.{Records, IsRecording};
+    ghost use Rattle.px_monitor.specs.Records.{Records, IsRecording};
 
     ghost Value = { Records };
 
     ghost view = { λ r. record { sources = r.sources.items; next_output = r.next_output; counts = r.counts.items; streams = r.streams.items } };
 
-    ghost invariant = { λ r. AllByRecursion IsTarget r.sources.items × AllByRecursion IsRecording r.streams.items };
+    ghost invariant = { λ r. All IsTarget r.sources.items × AllByRecursion IsRecording r.streams.items };
 }
 
 // What is put after a sink's name to name its monitor.
@@ -81,15 +83,25 @@ fn monitor_of(alloc: Global, sink: &Target) -> Mem<Target>
     })
 }
 
+// Adds the monitor of one more sink.
+fn add_monitor(alloc: Global, sources: &mut Vec<Target>, sink: &Target) -> Mem<()>
+    requires { IsTarget sink.now }
+    ensures value { OnOk result ((more : List Aim) → sources.new.items ++ map monitor_of more ≡ sources.old.items ++ map monitor_of (sink.now ∷ more)) }
+    ensures lawful { OnOk result (All IsTarget sources.old.items → All IsTarget sources.new.items) }
+{
+    sources.push(monitor_of(alloc, sink)?)?;
+    Ok(())
+}
+
 // The monitors of sinks.
 fn monitors_of(alloc: Global, sinks: &[Target]) -> Mem<Vec<Target>>
-    requires { AllByRecursion IsTarget sinks.now }
+    requires { All IsTarget sinks.now }
     ensures value { IfOk result (λ sources. sources.items ≡ map monitor_of sinks.now) }
-    ensures lawful { IfOk result (λ sources. AllByRecursion IsTarget sources.items) }
+    ensures lawful { IfOk result (λ sources. All IsTarget sources.items) }
 {
     let mut sources = Vec::new(alloc);
     for sink in sinks {
-        sources.push(monitor_of(alloc, sink)?)?;
+        add_monitor(alloc, &mut sources, sink)?;
     }
     Ok(sources)
 }
@@ -336,13 +348,7 @@ impl Recorded {
     }
 
     // The answer to a command whose fields were read.
-    fn replied(
-        &mut self,
-        alloc: Global,
-        conn: ConnId,
-        tag: u32,
-        request: Request,
-    ) -> Mem<Answer>
+    fn replied(&mut self, alloc: Global, conn: ConnId, tag: u32, request: Request) -> Mem<Answer>
         ensures value { IsAnswer result self.new (replied tag self.old (handled conn tag request self.old)) }
         ensures unchanged { OnErr result (self.new ≡ self.old) }
     {

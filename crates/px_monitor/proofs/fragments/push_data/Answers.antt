@@ -1,4 +1,4 @@
-use Rattle.std.proofs.Common.{rules, ◌≡◌, ℕ, ◌<◌, min, length, arith}
+use Rattle.std.proofs.Common.{rules, ◌≡◌, ◌<◌, min, length}
 use Rattle.px_monitor.proofs.Joining.{next, preserved, none_left}
 use Rattle.px_monitor.proofs.fragments.push_data.Goals as goal
 
@@ -7,7 +7,7 @@ loop-rest-preserved c =
     let there : 0 < length c.loop-rest.rest.now = search rules in
     let len : c.min-len.result ≡ min c.args.r.now.fragsize (length c.loop-rest.rest.now) = search rules in
     preserved c.args.r.now c.loop-rest.effects c.push.new.self c.in_ok-data.field-0 c.loop-rest.rest.now _ _ _
-        (next c.args.r.now.fragsize c.min-len.result c.loop-rest.rest.now (search rules) there len) c.in_ok-data.ensures.value c.in_ok-push.ensures.ok c.loop-rest.invariant
+    (next c.args.r.now.fragsize c.min-len.result c.loop-rest.rest.now (search rules) there len) c.in_ok-data.ensures.value c.in_ok-push.ensures.ok c.loop-rest.invariant
 
 pub returns : goal.returns
 returns c =
