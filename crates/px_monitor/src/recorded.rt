@@ -258,7 +258,6 @@ impl Recorded {
     }
 
     // The record stream that a connection asks for, and the reply.
-    #[tactic(auto, using(crate::proofs::Kept::named_is))]
     fn made(
         &self,
         alloc: Global,
