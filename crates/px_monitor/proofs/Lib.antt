@@ -1,1 +1,3 @@
 pub mod Sequence
+pub mod Kept
+pub mod Joining

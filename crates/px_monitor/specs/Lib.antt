@@ -1,3 +1,4 @@
 pub mod Command
 pub mod Records
 pub mod Create
+pub mod Fragments

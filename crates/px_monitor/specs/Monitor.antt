@@ -15,7 +15,7 @@ use Rattle.px_state.specs.declared.effect.Effect.{Effect}
 use Rattle.px_state.specs.declared.effect.Effect.TheVariants.{Sent, Closed}
 use Rattle.px_state.specs.Effect.{sending, fault_code, fault_place, offset_behind}
 use Rattle.px_core.specs.Connecting.{version_of}
-use Rattle.px_ctl_info.specs.Clients.{LEAST_VERSION}
+use Rattle.px_types.specs.declared.limits.TheConstants.{LEAST_PROTOCOL_VERSION}
 use Rattle.px_world.specs.declared.fault.WorldFault.{WorldFault}
 use Rattle.px_world.specs.World.{World, new_world}
 use Rattle.px_world.specs.Admission.{refusal_of}
@@ -32,7 +32,7 @@ use Rattle.px_monitor.specs.declared.answer.Answer.{Answer}
 use Rattle.px_monitor.specs.declared.answer.Answer.TheVariants.{Packet, Fault}
 use Rattle.px_world.specs.Running.{StandsFor as WorldStands}
 use Rattle.px_sieve.specs.Standing.{StandsFor as SieveStands}
-use Rattle.px_monitor.specs.declared.monitor.Parts.{Parts}
+use Rattle.px_monitor.specs.declared.parts.Parts.{Parts}
 use Rattle.px_monitor.specs.Command.{CREATE, DELETE}
 use Rattle.px_monitor.specs.Create.{Answered, answer}
 use Rattle.px_monitor.specs.Fragments.{sent_of}
@@ -88,14 +88,18 @@ records_seen (Closed conn reason fault at ∷ effects) records = records_seen ef
 abbrev pub seeing : List Effect → Monitor → Monitor
 seeing effects m = record m { sieve = seen m.sieve effects; records = records_seen effects m.records }
 
+-- the world after items
+abbrev pub running_on : Monitor → List Item → Monitor
+running_on m items = record m { world = world_by m.world (inner items) }
+
 abbrev pub after_items : Monitor → List Item → Monitor
-after_items m items = seeing (shown_by m.world items) (record m { world = world_by m.world (inner items) })
+after_items m items = seeing (shown_by m.world items) (running_on m items)
 
 -- ---- a piece of a connection's bytes
 
 -- the version by which its commands are read
 abbrev pub version_on : Monitor → ConnId → ℕ
-version_on m conn = unwrap_or (version_of m.world.core.connections conn) LEAST_VERSION
+version_on m conn = unwrap_or (version_of m.world.core.connections conn) LEAST_PROTOCOL_VERSION
 
 -- the packet of a control frame
 abbrev pub packet_of : Body → List ℕ
@@ -103,8 +107,11 @@ packet_of (Control packet) = packet
 packet_of (write stream offset seek bytes) = []
 
 -- the answer to a command, and the table of record streams after it
+abbrev pub answered_by : Monitor → ConnId → List ℕ → Answered
+answered_by m conn packet = answer (version_on m conn) conn packet m.records
+
 abbrev pub answered : Monitor → ConnId → Frame → Answered
-answered m conn frame = answer (version_on m conn) conn (packet_of frame.body) m.records
+answered m conn frame = answered_by m conn (packet_of frame.body)
 
 -- bytes for the world: where some were left out before, it counts from a later one
 abbrev pub shift_by : ConnId → ℕ → Shift
@@ -207,13 +214,13 @@ monitor_effects m e = shown_by m.world (items m e)
 
 -- ---- what record streams are sent
 
--- after a turn each record stream of its sink gets the bytes that it has played
+-- after a turn each record stream of its sink, in order of creation, gets the bytes that it has played
 abbrev pub sent_after : Monitor → Event → List Effect
 sent_after m (Connect conn) = []
 sent_after m (Bytes conn bytes) = []
 sent_after m (Close conn) = []
 sent_after m (Cut conn) = []
-sent_after m (Turn sink frames n) = sent_of (record { 0 = sink }) (concat (frames_played m.world (Turn sink frames n))) m.records.streams
+sent_after m (Turn sink frames n) = sent_of (record { 0 = sink }) (concat (frames_played m.world (Turn sink frames n))) (monitor_after m (Turn sink frames n)).records.streams
 sent_after m (Collect sink n) = []
 sent_after m (Stop sink) = []
 

@@ -4,12 +4,14 @@ ghost use Rattle.std.specs.Prelude.{◌≡◌, nat_le, find, bytes_eq, Ok, Err, 
 ghost use Rattle.std.specs.List.{list_all};
 ghost use Rattle.std.specs.Option.{option_map};
 ghost use Rattle.px_ctl_play.specs.Asked.{is_spec, is_map};
+ghost use Rattle.px_types.specs.declared.error_code.ErrorCode.TheVariants.{NoEntity};
+ghost use Rattle.px_outcome.specs.Handled.{present};
 ghost use Rattle.px_outcome.specs.declared.target.Target.{Target as Source};
 ghost use Rattle.px_monitor.specs.Create.{is_lawful, place_of, named, is_own_format, is_own_rate, are_own_channels, is_plain, is_supported};
 
 use crate::fields::RecordFields;
 use px_cmd::SinkRef;
-use px_outcome::{Refusal, Target, check, present};
+use px_outcome::{Refusal, Target, check};
 use px_tag::RawSpec;
 use px_types::ErrorCode;
 use px_types::limits::{MAX_CHANNELS, MAX_RATE, NO_INDEX};
@@ -60,15 +62,25 @@ fn place_of(index: u32) -> usize
     if index == NO_INDEX { 0 } else { index as usize }
 }
 
+// The source that was looked for.
+fn found<'a>(source: Option<&'a Target>) -> Result<&'a Target, Refusal>
+    ensures { MatchResult result (λ s. present (option_map (λ t. t.now) source.entry) NoEntity ≡ Ok s.now) (λ refusal. present (option_map (λ t. t.now) source.entry) NoEntity ≡ Err refusal) }
+{
+    match source {
+        Some(source) => Ok(source),
+        None => Err(Refusal::Code(ErrorCode::NoEntity)),
+    }
+}
+
 /// The source that is named. Takes no memory.
 pub(crate) fn named<'a>(sources: &'a [Target], source: &SinkRef) -> Result<&'a Target, Refusal>
     ensures { MatchResult result (λ s. named sources.now source.now.index source.now.name ≡ Ok s.now) (λ refusal. named sources.now source.now.index source.now.name ≡ Err refusal) }
 {
     match &source.name {
-        None => present(sources.get(place_of(source.index)), ErrorCode::NoEntity),
+        None => found(sources.get(place_of(source.index))),
         Some(name) => {
             check(source.index == NO_INDEX, ErrorCode::Invalid)?;
-            present(called(sources, name.as_slice()), ErrorCode::NoEntity)
+            found(called(sources, name.as_slice()))
         }
     }
 }
@@ -92,8 +104,7 @@ fn are_own_channels(source: &Target, a: &RecordFields) -> bool
     ensures { result ≡ are_own_channels source.now a.now }
 {
     a.fix_channels
-        || a.spec.channels == source.spec.channels
-            && a.map.as_slice() == source.map.positions()
+        || a.spec.channels == source.spec.channels && a.map.as_slice() == source.map.positions()
 }
 
 // Whether nothing is asked for that no source does.
@@ -112,8 +123,5 @@ fn is_plain(a: &RecordFields) -> bool
 pub(crate) fn is_supported(source: &Target, a: &RecordFields) -> bool
     ensures { result ≡ is_supported source.now a.now }
 {
-    is_plain(a)
-        && is_own_format(source, a)
-        && is_own_rate(source, a)
-        && are_own_channels(source, a)
+    is_plain(a) && is_own_format(source, a) && is_own_rate(source, a) && are_own_channels(source, a)
 }

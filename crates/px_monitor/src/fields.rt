@@ -115,11 +115,7 @@ fn source(alloc: Global, reader: &mut TagReader) -> Result<SinkRef, CmdFault>
 }
 
 // A flag that packets have from version `since` on: `None` in those of earlier versions, of which nothing is read.
-fn flag_from(
-    reader: &mut TagReader,
-    since: u16,
-    version: u16,
-) -> Result<Option<bool>, CmdFault>
+fn flag_from(reader: &mut TagReader, since: u16, version: u16) -> Result<Option<bool>, CmdFault>
     ensures { Takes optional result reader.new (fields_at (from_on since version) reader.old) }
 {
     if version < since {
@@ -200,11 +196,7 @@ fn read_later(reader: &mut TagReader, version: u16) -> Result<Later, CmdFault>
 }
 
 /// The fields of CREATE_RECORD_STREAM at this version.
-pub(crate) fn create(
-    alloc: Global,
-    reader: &mut TagReader,
-    version: u16,
-) -> Result<Whole, CmdFault>
+pub(crate) fn create(alloc: Global, reader: &mut TagReader, version: u16) -> Result<Whole, CmdFault>
     ensures { Takes whole_fields result reader.new (fields_at (create_kinds version) reader.old) }
 {
     let shape = read_shape(alloc, reader)?;

@@ -7,7 +7,7 @@ mod answer;
 mod checks;
 mod command;
 mod fields;
-
+mod fragments;
 mod recorded;
 mod recording;
 mod reply;
@@ -15,7 +15,7 @@ mod reply;
 pub use answer::Answer;
 pub use command::{Request, read_request};
 pub use fields::RecordFields;
-
+pub use fragments::{fragments_join, push_data};
 pub use recorded::Recorded;
 pub use recording::Recording;
 

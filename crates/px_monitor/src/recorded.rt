@@ -1,6 +1,6 @@
 //! The table of record streams.
 
-ghost use Rattle.std.specs.Prelude.{◌≡◌, ◌+◌, ◌<◌, ◌≤◌, ◌++◌, ◌∷◌, [], true, not, map, length, filter, find, vec_len, vec_capacity, IfOk, OnOk, OnErr};
+ghost use Rattle.std.specs.Prelude.{◌≡◌, ◌+◌, ◌<◌, ◌≤◌, ◌++◌, ◌∷◌, [], List, All, true, not, map, length, filter, find, vec_len, vec_capacity, IfOk, OnOk, OnErr};
 ghost use Rattle.std.specs.List.{AllByRecursion, list_any};
 ghost use Rattle.std.specs.Option.{option_map};
 ghost use Rattle.px_header.specs.HeaderRules.{IsHeader};
@@ -9,7 +9,9 @@ ghost use Rattle.px_reply.specs.Front.{refusal};
 ghost use Rattle.px_types.specs.ErrorCode.{code_of};
 ghost use Rattle.px_monitor.specs.declared.answer.Answer.TheVariants.{Packet as Answered};
 ghost use Rattle.px_outcome.specs.Target.{IsTarget};
+ghost use Rattle.px_outcome.specs.declared.target.Target.{Target as Aim};
 ghost use Rattle.px_cmd.specs.Packet.{head_at, HeadGives};
+ghost use Rattle.px_monitor.specs.Fragments.{sent_of};
 ghost use Rattle.px_monitor.specs.Records.{no_records, monitor_of, sources_of, streams_of, is_by, is_stream, counts_for, count_of, other_counts, with_count, with_stream, without_stream, without_conn, IsRecording};
 ghost use Rattle.px_monitor.specs.Create.{has_room, fragsize_of, made, create, delete, handled, replied, answer, IsDone, IsAnswer};
 
@@ -17,6 +19,7 @@ use crate::answer::Answer;
 use crate::checks::{is_lawful, is_supported, named};
 use crate::command::{Request, read_request};
 use crate::fields::RecordFields;
+use crate::fragments::sent;
 use crate::recording::{Count, Recording};
 use crate::reply;
 use px_cmd::{CmdFault, Head};
@@ -24,9 +27,10 @@ use px_header::Header;
 use px_outcome::{Refusal, Target, check};
 use px_sample::Spec;
 use px_sinks::targets_of;
+use px_state::Effects;
 use px_tag::{Packet, TagFault, TagReader};
 use px_types::limits::{MAX_LENGTH, NO_INDEX};
-use px_types::{ConnId, ErrorCode, Mem, NoMemory, Text};
+use px_types::{ConnId, ErrorCode, Mem, NoMemory, SinkId, Text};
 use std::alloc::Global;
 use std::marker::Model;
 
@@ -40,15 +44,17 @@ pub struct Recorded {
 }
 
 impl Model for Recorded {
+    ghost use Rattle.std.specs.Prelude.{All};
     ghost use Rattle.std.specs.List.{AllByRecursion};
     ghost use Rattle.px_outcome.specs.Target.{IsTarget};
+    ghost use Rattle.px_monitor.specs.Fragments.{sent_of};
     ghost use Rattle.px_monitor.specs.Records.{Records, IsRecording};
 
     ghost Value = { Records };
 
     ghost view = { λ r. record { sources = r.sources.items; next_output = r.next_output; counts = r.counts.items; streams = r.streams.items } };
 
-    ghost invariant = { λ r. AllByRecursion IsTarget r.sources.items × AllByRecursion IsRecording r.streams.items };
+    ghost invariant = { λ r. All IsTarget r.sources.items × AllByRecursion IsRecording r.streams.items };
 }
 
 // What is put after a sink's name to name its monitor.
@@ -77,15 +83,25 @@ fn monitor_of(alloc: Global, sink: &Target) -> Mem<Target>
     })
 }
 
+// Adds the monitor of one more sink.
+fn add_monitor(alloc: Global, sources: &mut Vec<Target>, sink: &Target) -> Mem<()>
+    requires { IsTarget sink.now }
+    ensures value { OnOk result ((more : List Aim) → sources.new.items ++ map monitor_of more ≡ sources.old.items ++ map monitor_of (sink.now ∷ more)) }
+    ensures lawful { OnOk result (All IsTarget sources.old.items → All IsTarget sources.new.items) }
+{
+    sources.push(monitor_of(alloc, sink)?)?;
+    Ok(())
+}
+
 // The monitors of sinks.
 fn monitors_of(alloc: Global, sinks: &[Target]) -> Mem<Vec<Target>>
-    requires { AllByRecursion IsTarget sinks.now }
+    requires { All IsTarget sinks.now }
     ensures value { IfOk result (λ sources. sources.items ≡ map monitor_of sinks.now) }
-    ensures lawful { IfOk result (λ sources. AllByRecursion IsTarget sources.items) }
+    ensures lawful { IfOk result (λ sources. All IsTarget sources.items) }
 {
     let mut sources = Vec::new(alloc);
     for sink in sinks {
-        sources.push(monitor_of(alloc, sink)?)?;
+        add_monitor(alloc, &mut sources, sink)?;
     }
     Ok(sources)
 }
@@ -143,14 +159,16 @@ fn set_count(counts: &mut Vec<Count>, conn: ConnId, streams: u32)
 
 // Drops a record stream.
 fn drop_stream(streams: &mut Vec<Recording>, conn: ConnId, stream: u32)
-    ensures { streams.new.items ≡ filter (λ r. not (is_stream conn stream r)) streams.old.items }
+    ensures items { streams.new.items ≡ filter (λ r. not (is_stream conn stream r)) streams.old.items }
+    ensures lawful { AllByRecursion IsRecording streams.old.items → AllByRecursion IsRecording streams.new.items }
 {
     streams.retain(|r| !(r.conn.0 == conn.0 && r.stream == stream));
 }
 
 // Drops the record streams of a connection.
 fn drop_streams(streams: &mut Vec<Recording>, conn: ConnId)
-    ensures { streams.new.items ≡ filter (λ r. not (is_by conn r)) streams.old.items }
+    ensures items { streams.new.items ≡ filter (λ r. not (is_by conn r)) streams.old.items }
+    ensures lawful { AllByRecursion IsRecording streams.old.items → AllByRecursion IsRecording streams.new.items }
 {
     streams.retain(|r| r.conn.0 != conn.0);
 }
@@ -329,13 +347,7 @@ impl Recorded {
     }
 
     // The answer to a command whose fields were read.
-    fn replied(
-        &mut self,
-        alloc: Global,
-        conn: ConnId,
-        tag: u32,
-        request: Request,
-    ) -> Mem<Answer>
+    fn replied(&mut self, alloc: Global, conn: ConnId, tag: u32, request: Request) -> Mem<Answer>
         ensures value { IsAnswer result self.new (replied tag self.old (handled conn tag request self.old)) }
         ensures unchanged { OnErr result (self.new ≡ self.old) }
     {
@@ -376,6 +388,14 @@ impl Recorded {
             }
             Err(CmdFault::NoMemory) => Err(NoMemory),
         }
+    }
+
+    /// The data frames of all record streams of a sink for bytes that it played, in order of creation, each stream's in frames of its
+    /// `fragsize` bytes, the last one shorter.
+    pub fn sent(&self, alloc: Global, sink: SinkId, bytes: &[u8]) -> Mem<Effects>
+        ensures { IfOk result (λ effects. effects ≡ sent_of sink bytes.now self.now.streams) }
+    {
+        sent(alloc, self.streams.as_slice(), sink, bytes)
     }
 
     /// Drops the record streams of a connection that is closed, and forgets how many it has created. Takes no memory.
