@@ -1,13 +1,11 @@
 -- The segments that a feed gives are those that a connection's bytes newly have.
-use Rattle.std.proofs.Common.{◌≡◌, ℕ, ◌+◌, ◌-◌, ◌<◌, ◌≤◌, ◌^◌, List, [], ◌∷◌, ◌++◌, map, length, take, drop, cond, refl, ap, sym, subst, ◌∙◌, append-nil, arith, Result, Ok, Err, Some, None, ⊎_elim, inl, inr, drop-drop}
+use Rattle.std.proofs.Common.{◌≡◌, ℕ, ◌+◌, ◌<◌, ◌≤◌, ◌^◌, List, [], ◌∷◌, ◌++◌, map, length, take, drop, refl, ap, sym, subst, ◌∙◌, append-nil, arith, inl, inr, drop-drop}
 use Rattle.std.proofs.lemmas.Bool.{cond_both}
-use Rattle.std.proofs.lemmas.List.{append_assoc, length-append, length-map, map-append, drop-append-le, take-append-le, drop_at}
+use Rattle.std.proofs.lemmas.List.{append_assoc, length-append, map-append, drop-append-le, take-append-le}
 use Rattle.std.proofs.Math.Seq.{drop-append_seam, drop-length}
 use Rattle.std.specs.Prelude.{◌==◌}
 use Rattle.std.specs.List.{flat_map, AllByRecursion}
 use Rattle.px_frame.specs.declared.descriptor.Descriptor.{Descriptor}
-use Rattle.px_frame.specs.declared.fault.FrameError.{FrameError}
-use Rattle.px_frame.specs.declared.fault.FrameError.TheVariants.{Fault, Failed, NoMemory}
 use Rattle.px_frame.specs.declared.fault.FrameFault.{FrameFault}
 use Rattle.px_frame.specs.declared.frame.Frame.{Frame}
 use Rattle.px_frame.specs.declared.frame.Body.{Body}
@@ -16,15 +14,13 @@ use Rattle.px_types.specs.declared.limits.TheConstants.{CONTROL_CHANNEL}
 use Rattle.px_frame.specs.Descriptor.{descriptor_bytes, byte_offset, seek_of}
 use Rattle.px_frame.specs.Frame.{Wire, wire_bytes, frame_of, IsFrame}
 use Rattle.px_frame.specs.Meaning.{frames_in, ending_in}
-use Rattle.px_frame.specs.Progress.{Progress, Within, Stopped, Lost, HasFed, Answers, Leaves}
-use Rattle.px_frame.specs.Reading.{Ending, Unfinished, Broken, IsRead, Splits, frames_from, IsBegun, IsBroken}
+use Rattle.px_frame.specs.Reading.{Ending, Unfinished, Broken, IsRead, Splits, frames_from, IsBegun}
 use Rattle.px_frame.proofs.DescriptorLemmas.{length-descriptor_bytes, descriptor-unique}
-use Rattle.px_frame.proofs.DecoderLemmas.{read-fed, failed-more}
+use Rattle.px_frame.proofs.DecoderLemmas.{failed-more}
 use Rattle.px_frame.proofs.MeaningLemmas.{read-only}
 use Rattle.px_frame.proofs.ReadingLemmas.{length-wire}
 use Rattle.px_sieve.specs.Segment.{payload_of, size_of, size_of_all, rest_in, faulty_at, segments_in, new_segments}
 use Rattle.px_sieve.specs.Standing.{IsShort}
-use Rattle.px_sieve.specs.declared.segment.Segment.{Segment}
 use Rattle.px_sieve.specs.declared.segment.Segment.TheVariants.{Whole, Faulty}
 
 -- ---- sizes
@@ -127,7 +123,7 @@ begun-shorter w rest piece x p e begun =
       | inl short ↦ omega (arith, short, length-wire w)
       | inr b ↦
           let same = descriptor-unique b.0 w.descriptor (b.1 ++ piece) (w.payload ++ x) b.2 p.words
-              (sym (append_assoc (descriptor_bytes b.0) b.1 piece) ∙ sym (ap (λ l. l ++ piece) b.3) ∙ e ∙ append_assoc (descriptor_bytes w.descriptor) w.payload x) in
+          (sym (append_assoc (descriptor_bytes b.0) b.1 piece) ∙ sym (ap (λ l. l ++ piece) b.3) ∙ e ∙ append_assoc (descriptor_bytes w.descriptor) w.payload x) in
           let here : length b.1 < w.descriptor.length = subst (λ (d : Descriptor). length b.1 < d.length) same.0 b.5 in
           omega (arith, here, p.whole, length-wire w, ap length b.3, length-append (descriptor_bytes b.0) b.1, length-descriptor_bytes b.0)
     ]

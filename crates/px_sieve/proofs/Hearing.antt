@@ -1,19 +1,19 @@
 -- A line hears more bytes: what a feed of them gave is added.
-use Rattle.std.proofs.Common.{◌≡◌, ℕ, Bool, false, List, [], ◌∷◌, ◌++◌, length, map, take, drop, refl, ap, sym, subst, ◌∙◌, append-nil, Result, Ok, Err}
+use Rattle.std.proofs.Common.{◌≡◌, ℕ, false, List, [], ◌∷◌, ◌++◌, length, map, take, drop, ap, sym, subst, ◌∙◌, append-nil, Result, Ok, Err}
 use Rattle.px_types.specs.declared.ids.ConnId.{ConnId}
 use Rattle.px_frame.specs.declared.fault.FrameError.{FrameError}
 use Rattle.px_frame.specs.declared.fault.FrameError.TheVariants.{Fault, Failed, NoMemory}
 use Rattle.px_frame.specs.declared.fault.FrameFault.{FrameFault}
 use Rattle.px_frame.specs.declared.frame.Frame.{Frame}
-use Rattle.px_frame.specs.Meaning.{frames_in, ending_in}
+use Rattle.px_frame.specs.Meaning.{frames_in}
 use Rattle.px_frame.specs.Progress.{Progress, Within, Stopped, Lost, HasFed, Answers, Leaves}
-use Rattle.px_frame.specs.Reading.{Ending, Unfinished, Broken, IsRead}
+use Rattle.px_frame.specs.Reading.{Unfinished, Broken, IsRead}
 use Rattle.px_frame.proofs.DecoderLemmas.{read-fed, failed-more}
 use Rattle.px_frame.proofs.MeaningLemmas.{read-only}
 use Rattle.px_frame.proofs.ReadingLemmas.{reading-unique}
 use Rattle.px_sieve.specs.declared.line.Line.{Line}
 use Rattle.px_sieve.specs.declared.segment.Segment.TheVariants.{Whole, Faulty}
-use Rattle.px_sieve.specs.Segment.{size_of_all, rest_in, new_segments}
+use Rattle.px_sieve.specs.Segment.{size_of_all, rest_in}
 use Rattle.px_sieve.specs.Sieve.{Heard, heard_more, unheard}
 use Rattle.px_sieve.specs.Standing.{Hears, IsRest, Adds}
 use Rattle.px_sieve.proofs.Cutting.{short-before, rest-now, ending-was, ending-now, segments-given, segments-none, ending-failed}
@@ -42,7 +42,6 @@ given-all p received frames fed = subst (HasFed p received) (fed-frames p receiv
 -- ---- a feed
 
 module _ (line next : Line) (h : Heard) (bytes : List ℕ) (hears : Hears line h) (same : next.conn ≡ line.conn) (in_same : next.let_in ≡ line.let_in) where
-
   pub hears-more : (given : Result (List Frame) FrameError) → Answers h.received (frames_in h.received) bytes given → Leaves next.decoder h.received (frames_in h.received) bytes given
       → Adds line.rest line.waiting.items bytes given next.rest next.waiting.items → Hears next (heard_more bytes h)
   hears-more (Ok frames) answers leaves adds =

@@ -161,11 +161,10 @@ module _ (conn : ConnId) (on : Bool) where
 
   pub possible-set : (lines : List Line) → ArePossible lines → ArePossible (map (line_set conn on) lines)
   possible-set [] all = tt
-  possible-set (line ∷ lines) all =
-      (
-        cond_both (is_line conn line) (record line { let_in = on }) line (λ (x : Line). AllByRecursion IsPossible x.waiting.items) (λ e. all.0) (λ e. all.0),
-        possible-set lines all.1,
-      )
+  possible-set (line ∷ lines) all = (
+    cond_both (is_line conn line) (record line { let_in = on }) line (λ (x : Line). AllByRecursion IsPossible x.waiting.items) (λ e. all.0) (λ e. all.0),
+    possible-set lines all.1,
+  )
 
 -- one line after another
 pub set-next : (f : Line → Line) (old : List Line) (i : ℕ) (d : Line) → i < length old → set (map f (take i old) ++ drop i old) i (f (get_or old i d)) ≡ map f (take (suc i) old) ++ drop (suc i) old

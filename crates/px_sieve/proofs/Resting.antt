@@ -1,6 +1,6 @@
 -- The bytes after whole frames, of which the first twenty are kept and all are counted.
-use Rattle.std.proofs.Common.{◌≡◌, ℕ, zero, suc, ◌+◌, ◌-◌, ◌<◌, ◌≤◌, min, List, [], ◌∷◌, ◌++◌, length, take, drop, refl, ap, sym, subst, ◌∙◌, append-nil, arith, ⊎_elim, inl, inr, ◌⊎◌, take_all}
-use Rattle.std.specs.Prelude.{nat_eq, ◌^◌, true, false, Bool}
+use Rattle.std.proofs.Common.{◌≡◌, ℕ, zero, suc, ◌+◌, ◌-◌, ◌<◌, ◌≤◌, min, List, [], ◌∷◌, ◌++◌, length, take, drop, ap, sym, ◌∙◌, append-nil, arith, inl, inr, ◌⊎◌, take_all}
+use Rattle.std.specs.Prelude.{nat_eq, ◌^◌, false}
 use Rattle.std.proofs.lemmas.List.{take-append-le, length-append, length-take, length-drop}
 use Rattle.std.proofs.Math.Seq.{take-append-add, drop-append-add}
 use Rattle.std.proofs.Math.ListN.{drop_of_length-le}
@@ -43,13 +43,13 @@ pub resumed : (begun bytes : List ℕ) (size : ℕ) → length begun ≤ size �
 resumed begun bytes size past =
     let sum : length begun + (size - length begun) ≡ size = omega (arith, past) in
     sym (
-      ap (λ n. drop n (begun ++ bytes)) (sym sum) ∙ drop-append-add begun bytes (size - length begun)
-      ∙ elim (either size (length begun + length bytes)) [
-        | inl within ↦ ap (λ n. drop n bytes) (omega (arith, within, past))
-        | inr beyond ↦
-            drop_of_length-le bytes (omega (arith, beyond))
-            ∙ sym (drop_of_length-le bytes (omega (arith, beyond)))
-      ]
+    ap (λ n. drop n (begun ++ bytes)) (sym sum) ∙ drop-append-add begun bytes (size - length begun)
+    ∙ elim (either size (length begun + length bytes)) [
+      | inl within ↦ ap (λ n. drop n bytes) (omega (arith, within, past))
+      | inr beyond ↦
+          drop_of_length-le bytes (omega (arith, beyond))
+          ∙ sym (drop_of_length-le bytes (omega (arith, beyond)))
+    ]
     )
 
 size-first : (f : Frame) (fs : List Frame) (n : ℕ) → n ≤ size_of f → n ≤ size_of_all (f ∷ fs)

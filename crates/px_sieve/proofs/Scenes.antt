@@ -1,7 +1,6 @@
 -- Lists of items join.
 use Rattle.std.proofs.Common.{◌≡◌, List, [], ◌∷◌, ◌++◌, refl, ap, sym, subst, ◌∙◌}
 use Rattle.std.proofs.lemmas.List.{append_assoc}
-use Rattle.px_state.specs.declared.effect.Effect.{Effect}
 use Rattle.px_world.specs.World.{World}
 use Rattle.px_world.specs.Event.{world_after, effects_after}
 use Rattle.px_world.specs.Output.{world_by, AreAdmitted}

@@ -1,6 +1,6 @@
 -- The sieve: of each connection the bytes that were heard, the segments of them that weren't handed out yet, and whether it is let in. It is from an AUTH that
 -- was passed on and answered by a reply, until the server ends the connection.
-use Rattle.std.specs.Prelude.{ℕ, Bool, true, false, cond, ◌&&◌, nat_eq, not, List, [], ◌∷◌, ◌++◌, ◌==◌, drop, take, map, filter, Option, None, Some}
+use Rattle.std.specs.Prelude.{ℕ, Bool, true, false, cond, ◌&&◌, nat_eq, not, List, [], ◌∷◌, ◌++◌, drop, map, filter, Option, None, Some}
 use Rattle.std.specs.List.{find}
 use Rattle.px_types.specs.declared.ids.ConnId.{ConnId}
 use Rattle.px_state.specs.declared.effect.Effect.{Effect}

@@ -19,16 +19,9 @@ pub enum Shift {
     Unshifted,
     /// Where connection `conn` is ended for a rule of the protocol, `skipped` of its bytes were left out before: the offset is
     /// that in all its bytes.
-    Moved {
-        conn: ConnId,
-        skipped: u64,
-    },
+    Moved { conn: ConnId, skipped: u64 },
     /// Where it is, it is for `fault` at the offset `at`.
-    Faulted {
-        conn: ConnId,
-        fault: u8,
-        at: u64,
-    },
+    Faulted { conn: ConnId, fault: u8, at: u64 },
     /// Those on the connection aren't shown.
     Hidden(ConnId),
 }

@@ -30,7 +30,7 @@ pub struct Sieve {
 
 impl Model for Sieve {
     ghost use Rattle.px_sieve.specs.Piece.{is_reply};
-ghost use Rattle.px_sieve.specs.Standing.{Sifting, ArePossible};
+    ghost use Rattle.px_sieve.specs.Standing.{Sifting, ArePossible};
 
     ghost Value = { Sifting };
 
