@@ -1,5 +1,5 @@
 -- What holds of all sources and record streams holds of those that are found or stay.
-use Rattle.std.proofs.Common.{◌≡◌, ℕ, zero, suc, ◌<◌, Bool, true, false, List, [], ◌∷◌, cond, filter, length, get_or, All, slice_get, find, bytes_eq, nat_eq, Option, None, Some, Result, Ok, Err, MatchResult, refl, ap, sym, subst, option_map, ◌∙◌, arith}
+use Rattle.std.proofs.Common.{◌≡◌, ℕ, zero, suc, ◌<◌, Bool, true, false, List, [], ◌∷◌, cond, filter, length, get_or, All, slice_get, find, bytes_eq, nat_eq, Option, None, Some, Result, Ok, Err, MatchResult, ap, sym, subst, option_map, ◌∙◌, arith}
 use Rattle.std.specs.List.{AllByRecursion}
 use Rattle.px_types.specs.declared.error_code.ErrorCode.{ErrorCode}
 use Rattle.px_types.specs.declared.error_code.ErrorCode.TheVariants.{Invalid, NoEntity}
@@ -67,6 +67,7 @@ named_found v sources index name text value result n alone f is = by result is
         ap (named sources index) n
         ∙ ap (λ (r : Handled (Unit {0})). r >>= λ one. present (find (λ source. bytes_eq (Target.name source) text) sources) NoEntity) alone
         ∙ ap (λ (o : Option Target). present o NoEntity) (sym f)
+
     by : (r : Result _ Refusal) → MatchResult r (λ s. present (option_map v value) NoEntity ≡ Ok (v s)) (λ refusal. present (option_map v value) NoEntity ≡ Err refusal) → MatchResult r (λ s. named sources index name ≡ Ok (v s)) (λ refusal. named sources index name ≡ Err refusal)
     by (Ok s) e = looked ∙ e
     by (Err refusal) e = looked ∙ e

@@ -4,11 +4,9 @@ use Rattle.std.specs.List.{list_any}
 use Rattle.px_types.specs.declared.ids.ConnId.{ConnId}
 use Rattle.px_types.specs.declared.error_code.ErrorCode.TheVariants.{Invalid, NoEntity, NotSupported, TooLarge}
 use Rattle.px_types.specs.ErrorCode.{code_of}
-use Rattle.px_tag.specs.declared.raw.RawSpec.{RawSpec}
 use Rattle.px_tag.specs.declared.fault.TagFault.{TagFault}
 use Rattle.px_tag.specs.Item.{number, text, flag, usec, spec, channel_map}
 use Rattle.px_tag.specs.Place.{Place, start_of}
-use Rattle.px_cmd.specs.declared.command.SinkRef.{SinkRef}
 use Rattle.px_cmd.specs.declared.fault.CmdFault.{CmdFault}
 use Rattle.px_cmd.specs.declared.fault.CmdFault.TheVariants.{Protocol, Unknown, Unsupported, NoMemory}
 use Rattle.px_cmd.specs.Packet.{head_at}

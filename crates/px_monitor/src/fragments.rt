@@ -50,8 +50,8 @@ pub(crate) fn sent(alloc: Global, streams: &[Recording], sink: SinkId, bytes: &[
     ensures { IfOk result (λ effects. effects ≡ sent_of sink bytes.now streams.now) }
 {
     let mut effects = Effects::new(alloc);
-    for r in streams {
-        push_where(alloc, &mut effects, sink, r, bytes)?;
+    for one in streams {
+        push_where(alloc, &mut effects, sink, one, bytes)?;
     }
     Ok(effects)
 }

@@ -11,4 +11,4 @@ returns-in_ok-check-in-Some c =
     let name : c.args.source.now.name ≡ Some c.as_slice.result.now = search rules in
     let alone : check (nat_eq c.args.source.now.index NO_INDEX) Invalid ≡ Ok tt = search rules in
     named_found (λ (s : Bor Target). s.now) c.args.sources.now c.args.source.now.index c.args.source.now.name c.as_slice.result.now c.called.result c.found-in-Some.result
-        name alone c.called.ensures c.found-in-Some.ensures
+    name alone c.called.ensures c.found-in-Some.ensures
