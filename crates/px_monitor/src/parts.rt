@@ -14,7 +14,7 @@ ghost use Rattle.px_monitor.specs.Monitor.{Monitor, shift_by, packet_of, passed_
 
 use crate::answer::Answer;
 use crate::recorded::Recorded;
-use crate::skips::{Skip, skip, skipped_of};
+use crate::skips::{Skip, skip_more, skipped_of};
 use px_frame::{Body, Frame};
 use px_session::Event;
 use px_sieve::{Piece, Shift, Sieve, shifted, spelled};
@@ -149,7 +149,7 @@ fn handle(parts: &mut Parts, alloc: Global, conn: ConnId, frame: &Frame) -> Mem<
 {
     let packet = packet_of(&frame.body);
     let effects = answer(&mut parts.world, &mut parts.records, alloc, conn, frame.at, packet)?;
-    skip(&mut parts.skips, conn, (packet.len() as u64).saturating_add(20))?;
+    skip_more(&mut parts.skips, conn, (packet.len() as u64).saturating_add(20))?;
     Ok(effects)
 }
 
@@ -184,7 +184,7 @@ fn drop_closed(records: &mut Recorded, effects: &[Effect])
 
 /// Effects are seen.
 pub(crate) fn see(parts: &mut Parts, effects: &Effects)
-    ensures { (m : Monitor) → StandsForMonitor parts.old m → StandsForMonitor parts.new (seeing effects.now m) }
+    ensures after { (m : Monitor) → StandsForMonitor parts.old m → StandsForMonitor parts.new (seeing effects.now m) }
     ensures left { left_in parts.new.sieve.lines ≡ left_in parts.old.sieve.lines }
 {
     parts.sieve.seen(effects);

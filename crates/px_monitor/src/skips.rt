@@ -38,7 +38,7 @@ pub(crate) fn drop_skip(skips: &mut Vec<Skip>, conn: ConnId)
 }
 
 /// The world of a connection doesn't get `more` bytes of it.
-pub(crate) fn skip(skips: &mut Vec<Skip>, conn: ConnId, more: u64) -> Mem<()>
+pub(crate) fn skip_more(skips: &mut Vec<Skip>, conn: ConnId, more: u64) -> Mem<()>
     ensures { OnOk result (skips.new.items ≡ with_skip conn more skips.old.items) }
 {
     let bytes = skipped_of(skips.as_slice(), conn).saturating_add(more);
