@@ -3,5 +3,7 @@ pub mod Kept
 pub mod Joining
 pub mod Sieving
 pub mod Handing
-pub mod Goes
 pub mod Payloads
+pub mod Partly
+pub mod Goes
+pub mod Events

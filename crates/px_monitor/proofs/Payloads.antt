@@ -47,10 +47,6 @@ same-numbers a b =
     (λ (e : nat_eq a b ≡ false). e ∙ sym (ne_eqb b a (λ s. eqb-false a b e (sym s))))
     (cases_Bool (nat_eq a b))
 
--- what a turn of `sink` plays on the sink of a record stream
-played : ℕ → List (List ℕ) → Recording → List ℕ
-played sink frames r = concat (cond (nat_eq sink (Recording.sink r).0) frames [])
-
 payloads-sink : (sink : SinkId) (frames : List (List ℕ)) (streams : List Recording) → AllByRecursion (λ (r : Recording). 1 ≤ r.fragsize) streams
     → payloads (sent_of sink (concat frames) streams) ≡ flat_map (λ r. concat (cond (nat_eq sink.0 (Recording.sink r).0) frames [])) streams
 payloads-sink sink frames [] all = refl
@@ -72,7 +68,7 @@ payloads-sink sink frames (r ∷ streams) all =
     ∙ ap (λ l. concat l ++ due) (sym (cond-false (nat_eq sink.0 (Recording.sink r).0) frames [] (same-numbers sink.0 (Recording.sink r).0 ∙ e))))
     (cases_Bool (nat_eq (Recording.sink r).0 sink.0))
 
-nothing-due : (streams : List Recording) → [] ≡ flat_map (λ (r : Recording). concat {A = ℕ} []) streams
+nothing-due : (streams : List Recording) → ◌≡◌ {A = List ℕ} [] (flat_map (λ (r : Recording). []) streams)
 nothing-due [] = refl
 nothing-due (r ∷ streams) = nothing-due streams
 

@@ -17,7 +17,9 @@ use Rattle.px_world.specs.Output.{world_by, AreAdmitted}
 use Rattle.px_sieve.specs.declared.segment.Segment.{Segment}
 use Rattle.px_sieve.specs.declared.piece.Piece.{Piece}
 use Rattle.px_sieve.specs.declared.piece.Piece.TheVariants.{Pass, Own, Write}
-use Rattle.px_sieve.specs.Scene.{Shift, Faulted, Item, Inner, Reply, inner, shown_by}
+use Rattle.px_sieve.specs.declared.shift.Shift.{Shift}
+use Rattle.px_sieve.specs.declared.shift.Shift.TheVariants.{Faulted}
+use Rattle.px_sieve.specs.Scene.{Item, Inner, Reply, inner, shown_by}
 use Rattle.px_sieve.proofs.Scenes.{events-join, worlds-join, shown-join, admitted-joins}
 use Rattle.px_monitor.specs.declared.answer.Answer.{Answer}
 use Rattle.px_monitor.specs.declared.answer.Answer.TheVariants.{Packet, Fault}
@@ -26,12 +28,12 @@ use Rattle.px_monitor.specs.Run.{monitor_by, AreMonitored, items_by, effects_sho
 
 -- ---- the world
 
-handled-world : (m : Monitor) (conn : ConnId) (piece : Piece) → (handled_in m conn piece).world ≡ m.world
+pub handled-world : (m : Monitor) (conn : ConnId) (piece : Piece) → (handled_in m conn piece).world ≡ m.world
 handled-world m conn (Pass bytes) = refl
 handled-world m conn (Write frame) = refl
 handled-world m conn (Own frame) = refl
 
-segment-world : (m : Monitor) (conn : ConnId) (segment : Segment) → (after_segment m conn segment).world ≡ world_by m.world (inner (segment_items m conn segment))
+pub segment-world : (m : Monitor) (conn : ConnId) (segment : Segment) → (after_segment m conn segment).world ≡ world_by m.world (inner (segment_items m conn segment))
 segment-world m conn segment = ap (λ w. world_by w (inner (segment_items m conn segment))) (handled-world (handed_out m conn) conn (piece_for m conn segment))
 
 segments-world : (m : Monitor) (conn : ConnId) (segments : List Segment) → (after_segments m conn segments).world ≡ world_by m.world (inner (segments_items m conn segments))
@@ -74,18 +76,21 @@ same-number conn bytes link = cond_both (is_of conn link) (record link { receive
 false-true : false ≡ true → ⊥
 false-true e = cc
 
+named-next : (b c : Bool) (link more : Link) (rest later : Option Link) → c ≡ b → if_named (cond b (Some link) rest) ≡ None → (if_named rest ≡ None → if_named later ≡ None)
+    → if_named (cond c (Some more) later) ≡ None
+named-next true true link more rest later same named next = refl
+named-next true false link more rest later same named next = absurd (false-true same)
+named-next false true link more rest later same named next = refl
+named-next false false link more rest later same named next = next named
+
 named-links : (conn : ConnId) (bytes : List ℕ) (links : List Link) → if_named (link_of links conn) ≡ None → if_named (link_of (map (with_bytes conn bytes) links) conn) ≡ None
 named-links conn bytes [] e = e
-named-links conn bytes (link ∷ links) e = go (is_of conn link) (is_of conn (with_bytes conn bytes link)) (same-number conn bytes link) e
-  where
-    go : (b c : Bool) → c ≡ b → if_named (cond b (Some link) (link_of links conn)) ≡ None → if_named (cond c (Some (with_bytes conn bytes link)) (link_of (map (with_bytes conn bytes) links) conn)) ≡ None
-    go true true same named = refl
-    go true false same named = absurd (false-true same)
-    go false true same named = refl
-    go false false same named = named-links conn bytes links named
+named-links conn bytes (link ∷ links) e =
+    named-next (is_of conn link) (is_of conn (with_bytes conn bytes link)) link (with_bytes conn bytes link) (link_of links conn) (link_of (map (with_bytes conn bytes) links) conn)
+    (same-number conn bytes link) e (named-links conn bytes links)
 
 -- a connection's number is in use
-IsNamed : World → ConnId → Type 0
+abbrev IsNamed : World → ConnId → Type 0
 IsNamed w conn = if_named (link_of w.links conn) ≡ None
 
 -- and so it is after its bytes

@@ -26,7 +26,9 @@ use Rattle.px_sieve.specs.declared.piece.Piece.{Piece}
 use Rattle.px_sieve.specs.declared.piece.Piece.TheVariants.{Pass, Own, Write}
 use Rattle.px_sieve.specs.Piece.{sorted}
 use Rattle.px_sieve.specs.Sieve.{Heard, Sieve, new_sieve, heard_of, pass, after_next, seen, forget}
-use Rattle.px_sieve.specs.Scene.{Shift, Unshifted, Moved, Faulted, Item, Inner, Reply, inner, shown_by}
+use Rattle.px_sieve.specs.declared.shift.Shift.{Shift}
+use Rattle.px_sieve.specs.declared.shift.Shift.TheVariants.{Unshifted, Moved, Faulted}
+use Rattle.px_sieve.specs.Scene.{Item, Inner, Reply, inner, shown_by}
 use Rattle.px_monitor.specs.declared.skips.Skip.{Skip}
 use Rattle.px_monitor.specs.declared.answer.Answer.{Answer}
 use Rattle.px_monitor.specs.declared.answer.Answer.TheVariants.{Packet, Fault}

@@ -70,9 +70,13 @@ fn pass_event(parts: &mut Parts, alloc: Global, e: Event) -> Result<Outcome, Wor
     ensures done { (m : Monitor) → StandsForMonitor parts.old m → Answered result (Handles parts.new (after_items m (alone e)) m e) (λ fault. monitor_refusal m e ≡ Some fault) }
     ensures stays { Answered result (λ _. Unit {0}) (λ _. parts.new ≡ parts.old) }
 {
-    let outcome = parts.world.event(alloc, e)?;
-    see(parts, &outcome.effects);
-    Ok(outcome)
+    match parts.world.event(alloc, e) {
+        Ok(outcome) => {
+            see(parts, &outcome.effects);
+            Ok(outcome)
+        }
+        Err(fault) => Err(fault),
+    }
 }
 
 // The outcome of an event, where nothing is sent to record streams.

@@ -10,7 +10,7 @@ ghost use Rattle.px_world.specs.Running.{StandsFor as WorldStands};
 ghost use Rattle.px_sieve.specs.declared.piece.Piece.TheVariants.{Own};
 ghost use Rattle.px_sieve.specs.Scene.{inner, shifted, shown_by};
 ghost use Rattle.px_sieve.specs.Standing.{IsPossiblePiece, left_in};
-ghost use Rattle.px_monitor.specs.Monitor.{Monitor, shift_by, packet_of, passed_on, answered_by, answer_items, handled_in, piece_items, running_on, records_seen, seeing, monitor_after, monitor_effects, StandsForMonitor};
+ghost use Rattle.px_monitor.specs.Monitor.{Monitor, shift_by, packet_of, zero_length, passed_on, answered_by, answer_items, handled_in, piece_items, running_on, records_seen, seeing, monitor_after, monitor_effects, StandsForMonitor};
 
 use crate::answer::Answer;
 use crate::recorded::Recorded;
@@ -84,7 +84,10 @@ fn give(world: &mut World, alloc: Global, conn: ConnId, bytes: Text, shift: Shif
     ensures after { OnOk result ((w : SpecWorld) → WorldStands world.old w → WorldStands world.new (world_after w (Bytes conn bytes))) }
 {
     match world.event(alloc, Event::Bytes(conn, bytes)) {
-        Ok(outcome) => shifted(alloc, shift, outcome.effects),
+        Ok(outcome) => {
+            let shown = shifted(alloc, shift, outcome.effects)?;
+            Ok(shown)
+        }
         Err(_) => Err(NoMemory),
     }
 }
@@ -96,7 +99,17 @@ fn reply(alloc: Global, conn: ConnId, packet: &[u8]) -> Mem<Effects>
     if packet.is_empty() || packet.len() > MAX_PAYLOAD as usize {
         return Ok(Effects::new(alloc));
     }
-    Effects::of(alloc, Effect::packet(alloc, conn, packet)?)
+    let effect = Effect::packet(alloc, conn, packet)?;
+    let effects = Effects::of(alloc, effect)?;
+    Ok(effects)
+}
+
+// The bytes of a frame of length 0.
+fn zero_length(alloc: Global) -> Mem<Text>
+    ensures { IfOk result (λ bytes. bytes ≡ zero_length) }
+{
+    let bytes = Vec::from_slice(alloc, &[0; 20])?;
+    Ok(Text::from_vec(bytes))
 }
 
 // A command of the mode's own is answered. A fault in its fields ends the connection.
@@ -117,15 +130,19 @@ fn answer(
 {
     let version = world.version_of(conn).unwrap_or(LEAST_PROTOCOL_VERSION);
     match records.answer(alloc, version, conn, packet)? {
-        Answer::Packet(given) => reply(alloc, conn, given.as_slice()),
+        Answer::Packet(given) => {
+            let effects = reply(alloc, conn, given.as_slice())?;
+            Ok(effects)
+        }
         Answer::Fault(fault) => {
-            let zero = Text::from_vec(Vec::from_slice(alloc, &[0; 20])?);
+            let zero = zero_length(alloc)?;
             let shift = Shift::Faulted {
                 conn,
                 fault: fault_code(fault),
                 at: at.saturating_add(fault_place(fault) as u64),
             };
-            give(world, alloc, conn, zero, shift)
+            let effects = give(world, alloc, conn, zero, shift)?;
+            Ok(effects)
         }
     }
 }
@@ -137,7 +154,8 @@ fn pass_on(parts: &mut Parts, alloc: Global, conn: ConnId, bytes: Text) -> Mem<E
     ensures sieve { parts.new.sieve ≡ parts.old.sieve }
 {
     let shift = shift_by(conn, skipped_of(parts.skips.as_slice(), conn));
-    give(&mut parts.world, alloc, conn, bytes, shift)
+    let effects = give(&mut parts.world, alloc, conn, bytes, shift)?;
+    Ok(effects)
 }
 
 // A command of the mode's own is handled.
@@ -162,12 +180,19 @@ fn make(parts: &mut Parts, alloc: Global, conn: ConnId, piece: Piece) -> Mem<Eff
     ensures sieve { parts.new.sieve ≡ parts.old.sieve }
 {
     match piece {
-        Piece::Pass(bytes) => pass_on(parts, alloc, conn, bytes),
+        Piece::Pass(bytes) => {
+            let effects = pass_on(parts, alloc, conn, bytes)?;
+            Ok(effects)
+        }
         Piece::Write(frame) => {
             let bytes = spelled(alloc, &frame.body)?;
-            pass_on(parts, alloc, conn, bytes)
+            let effects = pass_on(parts, alloc, conn, bytes)?;
+            Ok(effects)
         }
-        Piece::Own(frame) => handle(parts, alloc, conn, &frame),
+        Piece::Own(frame) => {
+            let effects = handle(parts, alloc, conn, &frame)?;
+            Ok(effects)
+        }
     }
 }
 

@@ -4,8 +4,8 @@ use Rattle.px_monitor.proofs.Goes.{GoesOn}
 use Rattle.px_monitor.proofs.parts.hear.Given as goal
 
 -- the pieces handled and those that wait are all of them
-abbrev pub invariant-loop-piece : goal.invariant-loop-piece
-invariant-loop-piece l = (m : Monitor) → StandsForMonitor l.fn.parts m → GoesOn l.conn l.effects l.parts (hearing m l.conn l.bytes)
+abbrev pub invariant-loop-effects : goal.invariant-loop-effects
+invariant-loop-effects l = (m : Monitor) → StandsForMonitor l.fn.parts m → GoesOn l.conn l.effects l.parts (hearing m l.conn l.bytes)
 
-abbrev pub decreases-loop-piece : goal.decreases-loop-piece
-decreases-loop-piece l = left_in l.parts.sieve.lines
+abbrev pub decreases-loop-effects : goal.decreases-loop-effects
+decreases-loop-effects l = left_in l.parts.sieve.lines
