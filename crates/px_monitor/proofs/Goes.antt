@@ -9,7 +9,7 @@ use Rattle.px_sieve.specs.declared.segment.Segment.{Segment}
 use Rattle.px_sieve.specs.declared.piece.Piece.{Piece}
 use Rattle.px_sieve.specs.declared.piece.Piece.TheVariants.{Pass, Own, Write}
 use Rattle.px_sieve.specs.Piece.{sorted}
-use Rattle.px_sieve.specs.Sieve.{Heard, Sieve, is_of, heard_of, changed, first_taken, next, after_next, seen}
+use Rattle.px_sieve.specs.Sieve.{Heard, Sieve, is_of, heard_of, changed, first_taken, first_of, piece_from, asked_from, next, after_next, seen}
 use Rattle.px_sieve.specs.Scene.{inner, shown_by}
 use Rattle.px_sieve.proofs.Scenes.{shown-join}
 use Rattle.px_monitor.specs.declared.parts.Parts.{Parts}
@@ -91,6 +91,18 @@ taken-none conn (h ∷ heard) none =
     cond-false (is_of conn h) (first_taken h ∷ heard) (h ∷ changed first_taken conn heard) e
     ∙ ap (λ l. h ∷ l) (taken-none conn heard (ap waiting_in (sym (cond-false (is_of conn h) (Some h) (heard_of heard conn) e)) ∙ none)))
     (cases_Bool (is_of conn h))
+
+first-none : (own : List ℕ) (first : Option (Segment × Bool)) → None ≡ piece_from own first → first ≡ None
+first-none own None e = refl
+first-none own (Some first) e = absurd cc
+
+-- nothing was handed out
+pub not-handed : (m : Monitor) (conn : ConnId) → None ≡ next m.sieve conn → handed_out m conn ≡ m
+not-handed m conn none =
+    let s = m.sieve in
+    let first : first_of (heard_of s.heard conn) ≡ None = first-none s.own (first_of (heard_of s.heard conn)) none in
+    ap (λ f. record m { sieve = record s { heard = changed first_taken conn s.heard; asked = asked_from s.own conn f s.asked } }) first
+    ∙ ap (λ h. record m { sieve = record s { heard = h; asked = s.asked } }) (taken-none conn s.heard (hands-none s.own (heard_of s.heard conn) none))
 
 module _ (conn : ConnId) (effects : List Effect) (parts later_parts : Parts) (start : Monitor) (g : GoesOn conn effects parts start) (none : None ≡ next g.now.sieve conn) where
   nothing-waits : to_hand_out g.now conn ≡ []

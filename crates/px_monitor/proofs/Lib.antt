@@ -7,3 +7,4 @@ pub mod Payloads
 pub mod Partly
 pub mod Goes
 pub mod Events
+pub mod Sized
