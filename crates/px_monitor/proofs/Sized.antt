@@ -95,15 +95,22 @@ named-channels sources index (Some name) t all e =
     let called = find (λ source. bytes_eq (Target.name source) name) sources in
     found HasChannels (λ source. bytes_eq (Target.name source) name) sources t all (present_ok called NoEntity t (checked (nat_eq index NO_INDEX) Invalid (present called NoEntity) t e))
 
+-- the new record stream and its reply, once the source is known
+abbrev new-on : ConnId → ℕ → RecordFields → Records → Target → Handled (Recording × List ℕ)
+new-on conn tag a records source = Ok (recording_of conn source a records, created_reply tag source (maxlength_of a) (recording_of conn source a records))
+
+abbrev roomy-on : ConnId → ℕ → RecordFields → Records → Target → Handled (Recording × List ℕ)
+roomy-on conn tag a records source = check (has_room conn records) TooLarge >>= λ room. new-on conn tag a records source
+
+abbrev made-on : ConnId → ℕ → RecordFields → Records → Target → Handled (Recording × List ℕ)
+made-on conn tag a records source = check (is_supported source a) NotSupported >>= λ supported. roomy-on conn tag a records source
+
 made-size : (conn : ConnId) (tag : ℕ) (a : RecordFields) (records : Records) (new : Recording × List ℕ) → AllByRecursion HasChannels records.sources → made conn tag a records ≡ Ok new → HasSize new.0
 made-size conn tag a records new all e =
-    let rest = λ (source : Target). (check (is_supported source a) NotSupported >>= λ supported. (check (has_room conn records) TooLarge >>= λ room.
-        Ok {B = Refusal} (recording_of conn source a records, created_reply tag source (maxlength_of a) (recording_of conn source a records)))) in
-    let lawful = bound (check (is_lawful a) Invalid) (λ one. named records.sources a.source.index a.source.name >>= rest) new e in
-    let source = bound (named records.sources a.source.index a.source.name) rest new lawful.2 in
-    let supported = bound (check (is_supported source.0 a) NotSupported) (λ supported. (check (has_room conn records) TooLarge >>= λ room.
-        Ok (recording_of conn source.0 a records, created_reply tag source.0 (maxlength_of a) (recording_of conn source.0 a records)))) new source.2 in
-    let room = bound (check (has_room conn records) TooLarge) (λ room. Ok (recording_of conn source.0 a records, created_reply tag source.0 (maxlength_of a) (recording_of conn source.0 a records))) new supported.2 in
+    let lawful = bound (check (is_lawful a) Invalid) (λ one. named records.sources a.source.index a.source.name >>= made-on conn tag a records) new e in
+    let source = bound (named records.sources a.source.index a.source.name) (made-on conn tag a records) new lawful.2 in
+    let supported = bound (check (is_supported source.0 a) NotSupported) (λ supported. roomy-on conn tag a records source.0) new source.2 in
+    let room = bound (check (has_room conn records) TooLarge) (λ room. new-on conn tag a records source.0) new supported.2 in
     let same : (recording_of conn source.0 a records, created_reply tag source.0 (maxlength_of a) (recording_of conn source.0 a records)) ≡ new = same-ok room.2 in
     subst (λ (n : Recording × List ℕ). HasSize n.0) same
     (some-fragsize source.0.spec a.fragsize (named-channels records.sources a.source.index a.source.name source.0 all source.1))

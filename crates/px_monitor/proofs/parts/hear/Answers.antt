@@ -1,5 +1,6 @@
 use Rattle.std.proofs.Common.{rules, ◌≡◌, Some, None, sym, subst, ◌∙◌}
 use Rattle.px_sieve.specs.Sieve.{next}
+use Rattle.px_monitor.specs.declared.parts.Parts.{Parts}
 use Rattle.px_monitor.specs.Monitor.{hearing, handed_out, handled_in, piece_items, running_on, StandsForMonitor}
 use Rattle.px_monitor.proofs.Goes.{GoesOn, goes-first, goes-next, goes-after, not-handed}
 use Rattle.px_monitor.proofs.parts.hear.Goals as goal
@@ -34,7 +35,7 @@ returns-clause-after c = λ m stands.
     let g = c.loop-effects.invariant m stands in
     let nothing : c.in_ok-piece.field-0 ≡ None = search rules in
     let none : None ≡ next g.now.sieve conn = sym nothing ∙ c.in_ok-piece.ensures.piece g.now.sieve g.stands.sieve in
-    let later = record { world = parts.world; sieve = c.next.new.self; skips = parts.skips; records = parts.records } in
+    let later : Parts = record { world = parts.world; sieve = c.next.new.self; skips = parts.skips; records = parts.records } in
     subst (StandsForMonitor later)
     (not-handed g.now conn none ∙ goes-after conn c.loop-effects.effects parts later (hearing m conn c.args.bytes.now) g none)
     (record { world = g.stands.world; sieve = c.in_ok-piece.ensures.after g.now.sieve g.stands.sieve; skips = g.stands.skips; records = g.stands.records })
