@@ -1,11 +1,11 @@
 -- The events of a world with monitors, from what its parts do.
-use Rattle.std.proofs.Common.{◌≡◌, ◌≢◌, ℕ, Bool, true, false, List, [], ◌∷◌, Option, None, Some, Result, Ok, Err, refl, ap, sym, subst, ◌∙◌}
+use Rattle.std.proofs.Common.{◌≡◌, ℕ, true, false, List, [], Option, None, Some, Result, Ok, Err, refl, ap, sym, subst, ◌∙◌}
 use Rattle.std.specs.Option.{is_some}
 use Rattle.std.specs.List.{concat}
 use Rattle.px_types.specs.declared.ids.ConnId.{ConnId}
 use Rattle.px_types.specs.declared.ids.SinkId.{SinkId}
 use Rattle.px_session.specs.declared.event.Event.{Event}
-use Rattle.px_session.specs.declared.event.Event.TheVariants.{Connect, Bytes, Close, Cut, Turn, Collect, Stop}
+use Rattle.px_session.specs.declared.event.Event.TheVariants.{Connect, Close, Cut, Turn, Collect, Stop}
 use Rattle.px_state.specs.declared.effect.Effect.{Effect}
 use Rattle.px_world.specs.declared.fault.WorldFault.{WorldFault}
 use Rattle.px_world.specs.declared.fault.WorldFault.TheVariants.{Live, NotLive, NoSink, Worn, TooMany, NoMemory}
@@ -14,13 +14,12 @@ use Rattle.px_world.specs.Admission.{if_named}
 use Rattle.px_world.specs.Event.{effects_after, frames_played}
 use Rattle.px_world.specs.Parts.{Unless, Answered}
 use Rattle.px_world.specs.World.{Link}
-use Rattle.px_sieve.specs.Scene.{shown_by}
 use Rattle.px_monitor.specs.declared.monitor.MonitorOutcome.{MonitorOutcome}
 use Rattle.px_monitor.specs.declared.parts.Parts.{Parts}
 use Rattle.px_monitor.specs.Fragments.{sent_of}
 use Rattle.px_monitor.specs.Records.{Records}
-use Rattle.px_monitor.specs.Monitor.{Monitor, running_on, seeing, after_items, alone, forgotten, monitor_refusal, StandsForMonitor}
-use Rattle.px_monitor.specs.MonitorOutcome.{IsMonitorOutcome, Handles, IsQuiet, HasDone}
+use Rattle.px_monitor.specs.Monitor.{Monitor, running_on, seeing, after_items, alone, forgotten, StandsForMonitor}
+use Rattle.px_monitor.specs.MonitorOutcome.{Handles, IsQuiet, HasDone}
 use Rattle.px_monitor.proofs.Partly.{shown-alone}
 
 -- ---- answers

@@ -1,20 +1,18 @@
 -- The pieces of a connection's bytes are handled one after the other.
-use Rattle.std.proofs.Common.{◌≡◌, ℕ, Bool, true, false, cond, List, [], ◌∷◌, ◌++◌, drop, Option, None, Some, refl, ap, sym, subst, ◌∙◌, append-nil, ⊎_elim}
+use Rattle.std.proofs.Common.{◌≡◌, ℕ, Bool, true, false, List, [], ◌∷◌, ◌++◌, drop, Option, None, Some, refl, ap, sym, subst, ◌∙◌, append-nil, ⊎_elim}
 use Rattle.std.proofs.lemmas.Bool.{cases_Bool, cond-true, cond-false}
 use Rattle.std.proofs.lemmas.List.{append_assoc}
 use Rattle.px_types.specs.declared.ids.ConnId.{ConnId}
 use Rattle.px_state.specs.declared.effect.Effect.{Effect}
-use Rattle.px_world.specs.Output.{world_by}
 use Rattle.px_sieve.specs.declared.segment.Segment.{Segment}
 use Rattle.px_sieve.specs.declared.piece.Piece.{Piece}
 use Rattle.px_sieve.specs.declared.piece.Piece.TheVariants.{Pass, Own, Write}
-use Rattle.px_sieve.specs.Piece.{sorted}
-use Rattle.px_sieve.specs.Sieve.{Heard, Sieve, is_of, heard_of, changed, first_taken, first_of, piece_from, asked_from, next, after_next, seen}
-use Rattle.px_sieve.specs.Scene.{inner, shown_by}
+use Rattle.px_sieve.specs.Sieve.{Heard, is_of, heard_of, changed, first_taken, first_of, piece_from, asked_from, next, seen}
+use Rattle.px_sieve.specs.Scene.{shown_by}
 use Rattle.px_sieve.proofs.Scenes.{shown-join}
 use Rattle.px_monitor.specs.declared.parts.Parts.{Parts}
-use Rattle.px_monitor.specs.Monitor.{Monitor, is_in, waiting_in, running_on, seeing, handled_in, handed_out, piece_for, piece_items, after_piece, after_segment, segment_items, segments_items, after_segments, hearing, to_hand_out, StandsForMonitor}
-use Rattle.px_monitor.proofs.Handing.{Hands, hands, hands-none, later-wait}
+use Rattle.px_monitor.specs.Monitor.{Monitor, waiting_in, running_on, seeing, handled_in, handed_out, piece_for, piece_items, after_segment, segment_items, segments_items, after_segments, to_hand_out, StandsForMonitor}
+use Rattle.px_monitor.proofs.Handing.{hands, hands-none, later-wait}
 use Rattle.px_monitor.proofs.Sieving.{handled-world, segment-world}
 
 -- some pieces were handled, and those that wait are left

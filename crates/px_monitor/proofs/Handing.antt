@@ -1,6 +1,6 @@
 -- Segments are handed out one after the other, until none waits.
-use Rattle.std.proofs.Common.{◌≡◌, ℕ, Bool, true, false, cond, List, [], ◌∷◌, ◌++◌, map, drop, Option, None, Some, refl, ap, sym, subst, ◌∙◌, ⊎_elim}
-use Rattle.std.specs.Prelude.{nat_eq, ◌&&◌}
+use Rattle.std.proofs.Common.{◌≡◌, ℕ, Bool, true, false, List, [], ◌∷◌, drop, Option, None, Some, refl, ap, sym, ◌∙◌, ⊎_elim}
+use Rattle.std.specs.Prelude.{◌&&◌}
 use Rattle.std.proofs.lemmas.Bool.{cases_Bool, cond-true, cond-false, cond_both}
 use Rattle.std.proofs.lemmas.Option.{none-some, same_Some}
 use Rattle.px_types.specs.declared.ids.ConnId.{ConnId}
@@ -9,7 +9,7 @@ use Rattle.px_state.specs.declared.effect.Effect.TheVariants.{Sent, Closed}
 use Rattle.px_sieve.specs.declared.segment.Segment.{Segment}
 use Rattle.px_sieve.specs.declared.piece.Piece.{Piece}
 use Rattle.px_sieve.specs.Piece.{sorted, is_reply}
-use Rattle.px_sieve.specs.Sieve.{Heard, Sieve, is_of, heard_of, changed, first_in, first_of, first_taken, piece_from, next, after_next, is_asked, set_one, set_in, seen_one, seen_all, seen}
+use Rattle.px_sieve.specs.Sieve.{Heard, Sieve, is_of, heard_of, changed, first_in, first_of, first_taken, piece_from, after_next, is_asked, set_one, set_in, seen_one, seen_all, seen}
 use Rattle.px_monitor.specs.Monitor.{is_in, waiting_in}
 
 -- ---- what is handed out is the first that waits

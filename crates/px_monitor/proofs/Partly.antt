@@ -1,7 +1,6 @@
 -- What the parts of a world with monitors do, from what each of them does.
-use Rattle.std.proofs.Common.{◌≡◌, ℕ, Bool, true, false, cond, List, [], ◌∷◌, ◌++◌, Option, None, Some, unwrap_or, refl, ap, sym, subst, ◌∙◌, append-nil}
+use Rattle.std.proofs.Common.{◌≡◌, ℕ, List, [], ◌∷◌, ◌++◌, unwrap_or, ap, sym, subst, ◌∙◌, append-nil}
 use Rattle.px_types.specs.declared.ids.ConnId.{ConnId}
-use Rattle.px_frame.specs.declared.frame.Frame.{Frame}
 use Rattle.px_session.specs.declared.event.Event.{Event}
 use Rattle.px_session.specs.declared.event.Event.TheVariants.{Bytes}
 use Rattle.px_state.specs.declared.effect.Effect.{Effect}
@@ -61,10 +60,10 @@ module _ (m : Monitor) (conn : ConnId) (at : ℕ) (packet : List ℕ) (after : R
   fault-shown fault zero code place effects is twenty coded placed shown =
       let e = Bytes conn zero_length in
       shown-one m.world e (Faulted conn (fault_code fault) (offset_behind at (fault_place fault))) effects (
-        shown
-        ∙ ap (λ z. shifted (Faulted conn code place) (effects_after m.world (Bytes conn z))) twenty
-        ∙ ap (λ n. shifted (Faulted conn n place) (effects_after m.world e)) coded
-        ∙ ap (λ n. shifted (Faulted conn (fault_code fault) n) (effects_after m.world e)) placed
+      shown
+      ∙ ap (λ z. shifted (Faulted conn code place) (effects_after m.world (Bytes conn z))) twenty
+      ∙ ap (λ n. shifted (Faulted conn n place) (effects_after m.world e)) coded
+      ∙ ap (λ n. shifted (Faulted conn (fault_code fault) n) (effects_after m.world e)) placed
       )
       ∙ ap (λ (a : Answered). shown_by m.world (answer_items conn at a.1)) (sym is)
 

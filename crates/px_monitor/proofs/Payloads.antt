@@ -1,11 +1,10 @@
 -- The payloads that a record stream is sent, joined, are what its sink plays.
-use Rattle.std.proofs.Common.{◌≡◌, ℕ, ◌<◌, ◌≤◌, Bool, true, false, cond, List, [], ◌∷◌, ◌++◌, map, filter, drop, length, refl, ap, sym, subst, ◌∙◌, arith, ⊎_elim}
+use Rattle.std.proofs.Common.{◌≡◌, ℕ, ◌≤◌, true, false, cond, List, [], ◌∷◌, ◌++◌, map, drop, length, refl, ap, sym, subst, ◌∙◌, arith, ⊎_elim}
 use Rattle.std.specs.Prelude.{nat_eq, pos}
 use Rattle.std.specs.List.{concat, flat_map, AllByRecursion}
 use Rattle.std.proofs.lemmas.Bool.{cases_Bool, cond-true, cond-false, eqb-true, eqb-false, ne_eqb}
 use Rattle.std.proofs.lemmas.Grind.{flat_map-append}
 use Rattle.std.proofs.Math.Seq.{drop-append_seam}
-use Rattle.px_types.specs.declared.ids.ConnId.{ConnId}
 use Rattle.px_types.specs.declared.ids.SinkId.{SinkId}
 use Rattle.px_frame.specs.Descriptor.{descriptor_bytes, data_descriptor}
 use Rattle.px_frame.proofs.DescriptorLemmas.{length-descriptor_bytes}
@@ -13,7 +12,6 @@ use Rattle.px_session.specs.declared.event.Event.{Event}
 use Rattle.px_session.specs.declared.event.Event.TheVariants.{Connect, Bytes, Close, Cut, Turn, Collect, Stop}
 use Rattle.px_state.specs.declared.effect.Effect.{Effect}
 use Rattle.px_world.specs.Event.{frames_played}
-use Rattle.px_world.specs.History.{played_on}
 use Rattle.px_monitor.specs.declared.recording.Recording.{Recording}
 use Rattle.px_monitor.specs.Fragments.{fragments, data_frame, data_of, streams_on, sent_of}
 use Rattle.px_monitor.specs.Monitor.{Monitor, monitor_after}

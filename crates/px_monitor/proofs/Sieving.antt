@@ -1,29 +1,25 @@
 -- The events that the world of a run with monitors gets, and the effects that are shown.
 use Rattle.std.proofs.Common.{◌≡◌, ℕ, Bool, true, false, cond, List, [], ◌∷◌, ◌++◌, map, Option, None, Some, refl, ap, sym, subst, ◌∙◌}
-use Rattle.std.specs.Prelude.{nat_eq}
-use Rattle.std.specs.List.{find}
 use Rattle.std.proofs.lemmas.Bool.{cond_both}
-use Rattle.std.proofs.lemmas.Option.{none-some}
 use Rattle.px_types.specs.declared.ids.ConnId.{ConnId}
 use Rattle.px_session.specs.declared.event.Event.{Event}
 use Rattle.px_session.specs.declared.event.Event.TheVariants.{Connect, Bytes, Close, Cut, Turn, Collect, Stop}
 use Rattle.px_frame.specs.Spelling.{spelling_of}
-use Rattle.px_state.specs.declared.effect.Effect.{Effect}
 use Rattle.px_state.specs.Effect.{fault_code, fault_place, offset_behind}
 use Rattle.px_world.specs.World.{World, Link, is_of, link_of}
 use Rattle.px_world.specs.Admission.{if_named, refusal_of}
-use Rattle.px_world.specs.Event.{world_after, with_bytes}
+use Rattle.px_world.specs.Event.{with_bytes}
 use Rattle.px_world.specs.Output.{world_by, AreAdmitted}
 use Rattle.px_sieve.specs.declared.segment.Segment.{Segment}
 use Rattle.px_sieve.specs.declared.piece.Piece.{Piece}
 use Rattle.px_sieve.specs.declared.piece.Piece.TheVariants.{Pass, Own, Write}
 use Rattle.px_sieve.specs.declared.shift.Shift.{Shift}
 use Rattle.px_sieve.specs.declared.shift.Shift.TheVariants.{Faulted}
-use Rattle.px_sieve.specs.Scene.{Item, Inner, Reply, inner, shown_by}
-use Rattle.px_sieve.proofs.Scenes.{events-join, worlds-join, shown-join, admitted-joins}
+use Rattle.px_sieve.specs.Scene.{Item, Inner, inner, shown_by}
+use Rattle.px_sieve.proofs.Scenes.{worlds-join, shown-join, admitted-joins}
 use Rattle.px_monitor.specs.declared.answer.Answer.{Answer}
 use Rattle.px_monitor.specs.declared.answer.Answer.TheVariants.{Packet, Fault}
-use Rattle.px_monitor.specs.Monitor.{Monitor, zero_length, skipped_of, shift_by, answer_items, answered, piece_items, piece_for, handled_in, handed_out, after_piece, after_segment, segment_items, segments_items, after_segments, hearing, to_hand_out, items, monitor_after, monitor_effects}
+use Rattle.px_monitor.specs.Monitor.{Monitor, zero_length, skipped_of, shift_by, answer_items, answered, piece_items, piece_for, handled_in, handed_out, after_segment, segment_items, segments_items, after_segments, hearing, to_hand_out, items, monitor_after, monitor_effects}
 use Rattle.px_monitor.specs.Run.{monitor_by, AreMonitored, items_by, effects_shown}
 
 -- ---- the world

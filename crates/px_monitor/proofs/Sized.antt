@@ -1,10 +1,9 @@
 -- Each data frame of a record stream has at least one byte, since the frames of its sink have.
-use Rattle.std.proofs.Common.{◌≡◌, ℕ, zero, suc, ◌+◌, ◌*◌, ◌≤◌, max, Bool, true, false, cond, List, [], ◌∷◌, ◌++◌, map, filter, take, Option, None, Some, Result, Ok, Err, refl, ap, sym, subst, ◌∙◌, arith, not}
+use Rattle.std.proofs.Common.{◌≡◌, ℕ, zero, suc, ◌+◌, ◌*◌, ◌≤◌, List, [], ◌∷◌, ◌++◌, map, take, Option, None, Some, Result, Ok, Err, refl, subst, arith, not}
 use Rattle.std.proofs.Math.Nat.{mul-le-mul_left}
 use Rattle.std.specs.Prelude.{find, slice_get, nat_eq, bytes_eq}
 use Rattle.std.specs.List.{AllByRecursion, list_any}
 use Rattle.px_types.specs.declared.ids.ConnId.{ConnId}
-use Rattle.px_types.specs.declared.error_code.ErrorCode.{ErrorCode}
 use Rattle.px_types.specs.declared.error_code.ErrorCode.TheVariants.{Invalid, NoEntity, NotSupported, TooLarge}
 use Rattle.px_tag.specs.declared.fault.TagFault.{TagFault}
 use Rattle.px_tag.specs.Place.{Place, start_of}
@@ -22,7 +21,6 @@ use Rattle.px_session.specs.declared.event.Event.{Event}
 use Rattle.px_session.specs.declared.event.Event.TheVariants.{Connect, Bytes, Close, Cut, Turn, Collect, Stop}
 use Rattle.px_state.specs.declared.effect.Effect.{Effect}
 use Rattle.px_state.specs.declared.effect.Effect.TheVariants.{Sent, Closed}
-use Rattle.px_outcome.specs.declared.refusal.Refusal.{Refusal}
 use Rattle.px_outcome.specs.declared.refusal.Refusal.TheVariants.{Code, NoMemory as OutOfMemory}
 use Rattle.px_outcome.specs.declared.target.Target.{Target}
 use Rattle.px_outcome.specs.Handled.{Handled, ◌>>=◌, check, present}
@@ -31,16 +29,16 @@ use Rattle.px_sinks.specs.Sinks.{targets_from, MOST_SINKS}
 use Rattle.px_sieve.specs.declared.segment.Segment.{Segment}
 use Rattle.px_sieve.specs.declared.piece.Piece.{Piece}
 use Rattle.px_sieve.specs.declared.piece.Piece.TheVariants.{Pass, Own, Write}
-use Rattle.px_sieve.specs.Scene.{Item, shown_by}
+use Rattle.px_sieve.specs.Scene.{shown_by}
 use Rattle.px_monitor.specs.declared.fields.RecordFields.{RecordFields}
 use Rattle.px_monitor.specs.declared.command.Request.{Request}
 use Rattle.px_monitor.specs.declared.command.Request.TheVariants.{Create, Delete}
 use Rattle.px_monitor.specs.declared.recording.Recording.{Recording}
 use Rattle.px_monitor.specs.Command.{request_at}
-use Rattle.px_monitor.specs.Records.{Records, monitor_of, no_records, is_by, is_stream, with_stream, without_stream, without_conn}
-use Rattle.px_monitor.specs.Create.{NO_INDEX, place_of, named, is_lawful, is_supported, has_room, fragsize_of, recording_of, created_reply, maxlength_of, Done, made, create, delete, handled, replied, requested, after_head, answer}
-use Rattle.px_monitor.specs.Monitor.{Monitor, new_monitor, records_seen, seeing, running_on, after_items, answered, version_on, packet_of, handled_in, handed_out, piece_for, piece_items, after_piece, after_segment, after_segments, hearing, to_hand_out, alone, monitor_after}
-use Rattle.px_monitor.specs.Run.{HaveSizes, AreSized}
+use Rattle.px_monitor.specs.Records.{Records, monitor_of, is_by, is_stream, with_stream, without_stream, without_conn}
+use Rattle.px_monitor.specs.Create.{NO_INDEX, place_of, named, is_lawful, is_supported, has_room, fragsize_of, recording_of, created_reply, maxlength_of, Done, made, create, delete, handled, replied, requested, after_head}
+use Rattle.px_monitor.specs.Monitor.{Monitor, new_monitor, records_seen, version_on, packet_of, handled_in, handed_out, piece_for, piece_items, after_segment, after_segments, hearing, to_hand_out, alone, monitor_after}
+use Rattle.px_monitor.specs.Run.{AreSized}
 use Rattle.px_monitor.proofs.Kept.{kept, found, placed, present_ok, checked}
 
 abbrev HasChannels : Target → Type 0

@@ -102,7 +102,12 @@ fn other(parts: &mut Parts, alloc: Global, e: Event) -> Result<MonitorOutcome, W
 }
 
 // Bytes of a connection arrive, if its number is in use.
-fn heard(parts: &mut Parts, alloc: Global, conn: ConnId, bytes: &[u8]) -> Result<MonitorOutcome, WorldFault>
+fn heard(
+    parts: &mut Parts,
+    alloc: Global,
+    conn: ConnId,
+    bytes: &[u8],
+) -> Result<MonitorOutcome, WorldFault>
     ensures done { (m : Monitor) → StandsForMonitor parts.old m → Answered result (HasDone parts.new m (Bytes conn bytes.now)) (λ fault. monitor_refusal m (Bytes conn bytes.now) ≡ Some fault) }
     ensures stays { Answered result (λ _. Unit {0}) (λ _. parts.new ≡ parts.old) }
 {
@@ -132,7 +137,13 @@ fn closed(parts: &mut Parts, alloc: Global, conn: ConnId) -> Result<MonitorOutco
 }
 
 // A turn of a sink: what it played goes to its record streams.
-fn turned(parts: &mut Parts, alloc: Global, sink: u8, frames: u64, take: u64) -> Result<MonitorOutcome, WorldFault>
+fn turned(
+    parts: &mut Parts,
+    alloc: Global,
+    sink: u8,
+    frames: u64,
+    take: u64,
+) -> Result<MonitorOutcome, WorldFault>
     ensures done { (m : Monitor) → StandsForMonitor parts.old m → Answered result (HasDone parts.new m (Turn sink frames take)) (λ fault. monitor_refusal m (Turn sink frames take) ≡ Some fault) }
     ensures stays { Answered result (λ _. Unit {0}) (λ _. parts.new ≡ parts.old) }
 {

@@ -166,8 +166,19 @@ fn handle(parts: &mut Parts, alloc: Global, conn: ConnId, frame: &Frame) -> Mem<
     ensures sieve { parts.new.sieve ≡ parts.old.sieve }
 {
     let packet = packet_of(&frame.body);
-    let effects = answer(&mut parts.world, &mut parts.records, alloc, conn, frame.at, packet)?;
-    skip_more(&mut parts.skips, conn, (packet.len() as u64).saturating_add(20))?;
+    let effects = answer(
+        &mut parts.world,
+        &mut parts.records,
+        alloc,
+        conn,
+        frame.at,
+        packet,
+    )?;
+    skip_more(
+        &mut parts.skips,
+        conn,
+        (packet.len() as u64).saturating_add(20),
+    )?;
     Ok(effects)
 }
 
