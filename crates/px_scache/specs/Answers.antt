@@ -1,5 +1,5 @@
 -- The answers to the commands of the sample cache.
-use Rattle.std.specs.Prelude.{◌≡◌, ℕ, ◌<◌, ◌≤◌, List, length, Result, Ok, Err}
+use Rattle.std.specs.Prelude.{◌≡◌, ℕ, ℤ, ◌<◌, ◌≤◌, List, [], length, Result, Ok, Err}
 use Rattle.px_types.specs.declared.ids.ConnId.{ConnId}
 use Rattle.px_types.specs.declared.error_code.ErrorCode.TheVariants.{NotSupported}
 use Rattle.px_types.specs.ErrorCode.{code_of}

@@ -1,5 +1,5 @@
 -- The sample cache: a map from names to samples.
-use Rattle.std.specs.Prelude.{◌≡◌, ℕ, ◌+◌, ◌<◌, ◌≤◌, Bool, not, ◌&&◌, nat_lt, nat_le, List, [], ◌∷◌, ◌++◌, length, filter, find, fold, bytes_eq, Option, None, Some, Ok}
+use Rattle.std.specs.Prelude.{◌≡◌, ℕ, ◌+◌, ◌<◌, ◌≤◌, Bool, false, not, cond, ◌&&◌, nat_lt, nat_le, List, [], ◌∷◌, ◌++◌, length, filter, find, fold, bytes_eq, Option, None, Some, Ok}
 use Rattle.std.specs.List.{AllByRecursion, list_any}
 use Rattle.px_types.specs.declared.error_code.ErrorCode.TheVariants.{NoEntity, TooLarge}
 use Rattle.px_chmap.specs.ChannelMap.{IsChannelMap}
@@ -46,6 +46,10 @@ cache_of changes = fold changed [] changes
 abbrev pub bytes_in : Cache → ℕ
 bytes_in [] = 0
 bytes_in (s ∷ cache) = length (Sample.bytes s) + bytes_in cache
+
+-- the bytes of a sample, where it has another name
+abbrev pub bytes_of_other : List ℕ → Sample → ℕ
+bytes_of_other name s = cond (is_called name s) 0 (length (Sample.bytes s))
 
 abbrev pub MOST_SAMPLES : ℕ
 MOST_SAMPLES = 256

@@ -56,7 +56,7 @@ begun plays a cache = do
   sample ← present (sample_named a.name cache) NoEntity
   volume ← check (is_volume a.volume) Invalid
   few ← check (nat_lt plays.under_way MOST_PLAYS) TooLarge
-  open ← check (not plays.closed) BadState
+  there ← check (not plays.closed) BadState
   clear ← check (is_clear a.sink) Invalid
   known ← check (is_name (SinkRef.name a.sink)) NoEntity
   Ok (record { sink = a.sink; volume = volume_of a.volume; sample = sample })
@@ -121,11 +121,12 @@ buffering p =
     Number 4194304 ∷ Flag false ∷ Number (length p.sample.bytes) ∷ Number 0xFFFFFFFF ∷ Number (length p.sample.bytes)
     ∷ Number 0 ∷ Volumes (p.volume ∷ []) ∷ []
 
--- the nine flags after the volume, and the properties
+-- the nine flags after the volume
 abbrev pub manner : List Field
-manner =
-    Flag false ∷ Flag false ∷ Flag false ∷ Flag false ∷ Flag false ∷ Flag false ∷ Flag false ∷ Flag false ∷ Flag false
-    ∷ Properties [] ∷ []
+manner = Flag false ∷ Flag false ∷ Flag false ∷ Flag false ∷ Flag false ∷ Flag false ∷ Flag false ∷ Flag false ∷ Flag false ∷ []
+
+abbrev pub no_properties : List Field
+no_properties = Properties [] ∷ []
 
 -- the flags of later versions: volume_set, and six more
 abbrev pub later : List Field

@@ -3,8 +3,8 @@
 ghost use Rattle.std.specs.Prelude.{◌≡◌, ◌+◌, ◌<◌, ◌≤◌, ◌++◌, ◌∷◌, [], true, not, length, filter, find, vec_capacity, IfOk, OnOk, OnErr, IfSome};
 ghost use Rattle.std.specs.List.{AllByRecursion, list_any};
 ghost use Rattle.std.specs.Option.{option_map};
-ghost use Rattle.px_scache.specs.Answers.{IsDone};
-ghost use Rattle.px_scache.specs.Cache.{is_called, others, stored, removed, bytes_in, has_room, sample_named, has_sample, without, finish, remove, IsSample, IsCache};
+ghost use Rattle.px_scache.specs.Answers.{IsDone, IsCarried};
+ghost use Rattle.px_scache.specs.Cache.{is_called, bytes_of_other, others, stored, removed, bytes_in, has_room, sample_named, has_sample, without, finish, remove, IsSample, IsCache};
 
 use crate::sample::Sample;
 use px_cmd::Text;
@@ -55,6 +55,17 @@ fn count_others(samples: &[Sample], name: &[u8]) -> usize
         .count()
 }
 
+// The bytes of a sample, where it has another name.
+fn bytes_of_other(sample: &Sample, name: &[u8]) -> usize
+    ensures { result ≡ bytes_of_other name.now sample.now }
+{
+    if is_called(sample, name) {
+        0
+    } else {
+        sample.bytes.len()
+    }
+}
+
 // The bytes of the samples that have other names.
 fn bytes_of_others(samples: &[Sample], name: &[u8]) -> usize
     requires { bytes_in samples.now ≤ 67108864 }
@@ -63,9 +74,7 @@ fn bytes_of_others(samples: &[Sample], name: &[u8]) -> usize
 {
     let mut bytes: usize = 0;
     for sample in samples {
-        if !is_called(sample, name) {
-            bytes += sample.bytes.len();
-        }
+        bytes += bytes_of_other(sample, name);
     }
     bytes
 }
@@ -94,6 +103,17 @@ fn drop_sample(samples: &mut Vec<Sample>, name: &[u8])
     samples.retain(|sample| !is_called(sample, name));
 }
 
+// Puts a sample in place of one of its name, where there is room for one more.
+#[tactic(auto, using(crate::proofs::Room::stored_is))]
+fn replace(samples: &mut Vec<Sample>, sample: Sample)
+    requires { length samples.old.items + 1 ≤ vec_capacity samples.old }
+    ensures items { samples.new.items ≡ stored sample samples.old.items }
+    ensures lawful { IsCache samples.old.items → IsSample sample → length sample.bytes + bytes_in (others sample.name samples.old.items) ≤ 67108864 → IsCache samples.new.items }
+{
+    drop_sample(samples, sample.name.as_slice());
+    samples.push_reserved(sample);
+}
+
 impl Cache {
     /// No samples. Takes no memory.
     pub fn new(alloc: Global) -> Cache
@@ -105,13 +125,17 @@ impl Cache {
     }
 
     /// The sample with a name, `None` where there is none, as for the null string. Takes no memory.
+    #[tactic(auto, using(crate::proofs::Named::sample_is))]
     pub fn get(&self, name: &Option<Text>) -> Option<&Sample>
         ensures value { option_map (λ s. s.now) result ≡ sample_named name.now self.now }
         ensures lawful { IfSome result (λ s. IsSample s.now) }
     {
         match name {
             None => None,
-            Some(name) => found(self.samples.as_slice(), name.as_slice()),
+            Some(name) => match found(self.samples.as_slice(), name.as_slice()) {
+                None => None,
+                Some(sample) => Some(sample),
+            },
         }
     }
 
@@ -134,15 +158,16 @@ impl Cache {
         ensures unchanged { OnErr result (self.new ≡ self.old) }
     {
         self.samples.reserve(1)?;
-        drop_sample(&mut self.samples, sample.name.as_slice());
-        self.samples.push_reserved(sample);
+        replace(&mut self.samples, sample);
         Ok(())
     }
 
     /// The end of FINISH_UPLOAD_STREAM: the sample is stored under its name, in place of one there. It is refused with `TooLarge` where there
     /// are 256 samples of other names, or where they have more than 67,108,864 bytes together with it. After a refusal the cache is as it was.
+    #[tactic(auto, using(crate::proofs::Sent::reply_carried))]
     pub fn finish(&mut self, alloc: Global, tag: u32, sample: Sample) -> Result<Packet, Refusal>
         requires { IsSample sample }
+        ensures carried { IfOk result IsCarried }
         ensures value { IsDone result self.new (finish tag sample self.old) }
         ensures unchanged { OnErr result (self.new ≡ self.old) }
     {
@@ -172,12 +197,14 @@ impl Cache {
     }
 
     /// REMOVE_SAMPLE, refused with `NoEntity` where there is no sample with this name. After a refusal the cache is as it was.
+    #[tactic(auto, using(crate::proofs::Sent::reply_carried))]
     pub fn remove(
         &mut self,
         alloc: Global,
         tag: u32,
         name: &Option<Text>,
     ) -> Result<Packet, Refusal>
+        ensures carried { IfOk result IsCarried }
         ensures value { IsDone result self.new (remove tag name.now self.old) }
         ensures unchanged { OnErr result (self.new ≡ self.old) }
     {

@@ -2,9 +2,13 @@
 
 ghost use Rattle.std.specs.Prelude.{◌≡◌, ◌≢◌, ◌++◌, ◌<◌, ◌≤◌, [], true, length, flat_map, IsTrue, IfOk, OnOk, MatchResult};
 ghost use Rattle.px_types.specs.declared.limits.TheConstants.{CONTROL_CHANNEL};
+ghost use Rattle.px_tag.specs.Item.{is_text};
+ghost use Rattle.px_cmd.specs.Field.{spelling};
+ghost use Rattle.px_frame.specs.declared.frame.Body.TheVariants.{Control};
+ghost use Rattle.px_frame.specs.Spelling.{spelling_of};
 ghost use Rattle.px_outcome.specs.Handled.{HandledAs};
 ghost use Rattle.px_scache.specs.Cache.{IsSample};
-ghost use Rattle.px_scache.specs.Play.{is_volume, volume_of, is_name, is_clear, begun, create_packet, drain_packet, delete_packet, create_frame, drain_frame, delete_frame, data_frame, IsPlay};
+ghost use Rattle.px_scache.specs.Play.{is_volume, volume_of, is_name, is_clear, begun, shape, buffering, manner, no_properties, later, create_packet, drain_packet, delete_packet, create_frame, drain_frame, delete_frame, data_frame, IsPlay};
 
 use crate::cache::Cache;
 use crate::fields::PlayFields;
@@ -143,8 +147,8 @@ fn put_buffering(writer: &mut TagWriter, p: &Play) -> px_tag::Mem<()>
     writer.cvolume(&RawVolume::new(&[p.volume]))
 }
 
-// Appends nine flags that aren't set, and an empty property list.
-fn put_manner(alloc: Global, writer: &mut TagWriter) -> px_tag::Mem<()>
+// Appends nine flags that aren't set.
+fn put_manner(writer: &mut TagWriter) -> px_tag::Mem<()>
     ensures { OnOk result (writer.new ≡ writer.old ++ flat_map spelling manner) }
 {
     writer.flag(false)?;
@@ -155,7 +159,13 @@ fn put_manner(alloc: Global, writer: &mut TagWriter) -> px_tag::Mem<()>
     writer.flag(false)?;
     writer.flag(false)?;
     writer.flag(false)?;
-    writer.flag(false)?;
+    writer.flag(false)
+}
+
+// Appends an empty property list.
+fn put_no_properties(alloc: Global, writer: &mut TagWriter) -> px_tag::Mem<()>
+    ensures { OnOk result (writer.new ≡ writer.old ++ flat_map spelling no_properties) }
+{
     writer.proplist(&PropList::new(alloc))
 }
 
@@ -183,7 +193,8 @@ fn create_packet(alloc: Global, tag: u32, p: &Play) -> px_tag::Mem<Packet>
     writer.number(tag)?;
     put_shape(&mut writer, p)?;
     put_buffering(&mut writer, p)?;
-    put_manner(alloc, &mut writer)?;
+    put_manner(&mut writer)?;
+    put_no_properties(alloc, &mut writer)?;
     put_later(&mut writer)?;
     Ok(writer.finish())
 }

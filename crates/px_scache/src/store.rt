@@ -46,8 +46,10 @@ fn front(reader: &mut TagReader) -> Result<Head, TagFault>
 }
 
 // The error with a code.
+#[tactic(auto, using(crate::proofs::Sent::refusal_carried))]
 fn refused(alloc: Global, tag: u32, code: ErrorCode) -> Mem<Answer>
-    ensures { IfOk result (λ given. given ≡ Answered (refusal tag (code_of code))) }
+    ensures sent { IfOk result CanBeSent }
+    ensures value { IfOk result (λ given. given ≡ Answered (refusal tag (code_of code))) }
 {
     match px_reply::error(alloc, tag, code) {
         Ok(packet) => Ok(Answer::Packet(packet)),
@@ -81,6 +83,7 @@ impl SampleCache {
         tag: u32,
         stream: u32,
     ) -> Result<Answer, Refusal>
+        ensures sent { IfOk result CanBeSent }
         ensures value { IsDone result self.new (finish_upload conn tag stream self.old) }
         ensures unchanged { OnErr result (self.new ≡ self.old) }
     {
@@ -99,6 +102,7 @@ impl SampleCache {
         tag: u32,
         request: Request,
     ) -> Result<Answer, Refusal>
+        ensures sent { IfOk result CanBeSent }
         ensures value { IsDone result self.new (handled conn plays tag request self.old) }
         ensures unchanged { OnErr result (self.new ≡ self.old) }
     {
@@ -122,6 +126,7 @@ impl SampleCache {
         tag: u32,
         request: Request,
     ) -> Mem<Answer>
+        ensures sent { IfOk result CanBeSent }
         ensures value { IsAnswer result self.new (replied tag self.old (handled conn plays tag request self.old)) }
         ensures unchanged { OnErr result (self.new ≡ self.old) }
     {
@@ -143,6 +148,7 @@ impl SampleCache {
         plays: Plays,
         packet: &[u8],
     ) -> Mem<Answer>
+        ensures sent { IfOk result CanBeSent }
         ensures value { IsAnswer result self.new (answer conn plays packet.now self.old) }
         ensures unchanged { OnErr result (self.new ≡ self.old) }
     {

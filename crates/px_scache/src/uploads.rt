@@ -6,9 +6,9 @@ ghost use Rattle.std.specs.Option.{option_map};
 ghost use Rattle.px_outcome.specs.Handled.{HandledAs};
 ghost use Rattle.px_sample.specs.declared.spec.Spec.{Spec as SampleSpec};
 ghost use Rattle.px_chmap.specs.ChannelMap.{IsChannelMap};
-ghost use Rattle.px_scache.specs.Answers.{IsDone};
+ghost use Rattle.px_scache.specs.Answers.{IsDone, IsCarried};
 ghost use Rattle.px_scache.specs.Cache.{IsSample};
-ghost use Rattle.px_scache.specs.Uploads.{no_uploads, is_by, uploads_of, is_upload, has_upload, counts_for, next_of, other_counters, with_counter, with_upload, without_upload, without_conn, follows, written, has_room, made, create, delete, finished, sample_of, IsUpload};
+ghost use Rattle.px_scache.specs.Uploads.{no_uploads, is_by, uploads_of, is_upload, has_upload, counts_for, next_of, other_counters, with_counter, with_upload, without_upload, without_conn, change_first, added, written, has_room, made, create, delete, finished, sample_of, IsUpload};
 
 use crate::checks::{is_lawful, is_supported, is_whole, named, spec_of};
 use crate::fields::UploadFields;
@@ -220,6 +220,7 @@ impl Uploads {
     /// CREATE_UPLOAD_STREAM of a connection. It is refused, by the first of these that holds: `Invalid` for no name, an empty one, an
     /// unlawful spec or map; `NotSupported` for floating point; `Invalid` where the sample has no bytes or not whole frames; `TooLarge` where
     /// it has more than 1,048,576 bytes, the connection has 16 uploads, or no number is left. After a refusal the uploads are as they were.
+    #[tactic(auto, using(crate::proofs::Sent::created_carried))]
     pub fn create(
         &mut self,
         alloc: Global,
@@ -227,6 +228,7 @@ impl Uploads {
         tag: u32,
         a: &UploadFields,
     ) -> Result<Packet, Refusal>
+        ensures carried { IfOk result IsCarried }
         ensures value { IsDone result self.new (create conn tag a.now self.old) }
         ensures unchanged { OnErr result (self.new ≡ self.old) }
     {
@@ -238,6 +240,7 @@ impl Uploads {
 
     /// DELETE_UPLOAD_STREAM of a connection, refused with `NoEntity` where it has no such upload. After a refusal the uploads are as they
     /// were.
+    #[tactic(auto, using(crate::proofs::Sent::reply_carried))]
     pub fn delete(
         &mut self,
         alloc: Global,
@@ -245,6 +248,7 @@ impl Uploads {
         tag: u32,
         stream: u32,
     ) -> Result<Packet, Refusal>
+        ensures carried { IfOk result IsCarried }
         ensures value { IsDone result self.new (delete conn tag stream self.old) }
         ensures unchanged { OnErr result (self.new ≡ self.old) }
     {
@@ -255,6 +259,7 @@ impl Uploads {
     }
 
     /// The sample of a connection's upload: `NoEntity` where it has no such upload, `BadState` where not all of its bytes have come.
+    #[tactic(auto, using(crate::proofs::Named::upload_is))]
     pub fn finished(&self, alloc: Global, conn: ConnId, stream: u32) -> Result<Sample, Refusal>
         ensures value { HandledAs result (finished conn stream self.now) }
         ensures lawful { IfOk result IsSample }
