@@ -18,13 +18,13 @@ pub none_left : (name : List ℕ) (cache : Cache) → sample_in (removed name ca
 none_left name [] = refl
 none_left name (x ∷ cache) = dropped (is_called name x) x (is_called name) (others name cache) refl (none_left name cache)
 
+after_first : (b : Bool) (x s : Sample) (rest longer : Option Sample) → (rest ≡ None → longer ≡ Some s) → cond b (Some x) rest ≡ None → cond b (Some x) longer ≡ Some s
+after_first true x s rest longer more e = absurd cc
+after_first false x s rest longer more e = more e
+
 last : (name : List ℕ) (cache : Cache) (s : Sample) → sample_in cache name ≡ None → is_called name s ≡ true → sample_in (cache ++ s ∷ []) name ≡ Some s
 last name [] s none is = rw is refl
-last name (x ∷ cache) s none is = after (is_called name x) none
-  where
-    after : (b : Bool) → cond b (Some x) (sample_in cache name) ≡ None → cond b (Some x) (sample_in (cache ++ s ∷ []) name) ≡ Some s
-    after true e = absurd cc
-    after false e = last name cache s e is
+last name (x ∷ cache) s none is = after_first (is_called name x) x s (sample_in cache name) (sample_in (cache ++ s ∷ []) name) (λ e. last name cache s e is) none
 
 pub found_again : (s : Sample) (cache : Cache) → sample_in (stored s cache) s.name ≡ Some s
 found_again s cache = last s.name (others s.name cache) s (none_left s.name cache) (itself s.name)

@@ -64,7 +64,7 @@ create_means tag p is low index volume =
       tagged = low;
       kinds = refl;
       each = (spec_is p.sample is.sample, (map_is p.sample is.sample, (index, (name_is p.sink.name is.name, (lit< tt, (tt, (bytes_few p.sample is.sample, (lit< tt, (bytes_few p.sample is.sample, (lit< tt, (volume_is p.volume volume,
-        (tt, (tt, (tt, (tt, (tt, (tt, (tt, (tt, (tt, (tt,
+        (tt, (tt, (tt, (tt, (tt, (tt, (tt, (tt, (tt, (refl,
         (tt, (tt, (tt, (tt, (tt, (tt, (tt, tt))))))))))))))))))))))))))));
     }) in
     rw again refl

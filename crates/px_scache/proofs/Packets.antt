@@ -54,7 +54,7 @@ spec_size s = refl
 
 map_size : (positions : List ℕ) → length (channel_map positions) ≡ 2 + length positions
 unfolding channel_map
-map_size positions = refl
+map_size positions = omega arith
 
 number_size : (n : ℕ) → length (number n) ≡ 5
 unfolding number

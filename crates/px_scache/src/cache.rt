@@ -104,11 +104,13 @@ fn drop_sample(samples: &mut Vec<Sample>, name: &[u8])
 }
 
 // Puts a sample in place of one of its name, where there is room for one more.
-#[tactic(auto, using(crate::proofs::Room::stored_is))]
 fn replace(samples: &mut Vec<Sample>, sample: Sample)
-    requires { length samples.old.items + 1 ≤ vec_capacity samples.old }
+    requires room { length samples.old.items + 1 ≤ vec_capacity samples.old }
+    requires lawful { IsCache samples.old.items }
+    requires sample { IsSample sample }
+    requires fits { length sample.bytes + bytes_in (others sample.name samples.old.items) ≤ 67108864 }
     ensures items { samples.new.items ≡ stored sample samples.old.items }
-    ensures lawful { IsCache samples.old.items → IsSample sample → length sample.bytes + bytes_in (others sample.name samples.old.items) ≤ 67108864 → IsCache samples.new.items }
+    ensures lawful { IsCache samples.new.items }
 {
     drop_sample(samples, sample.name.as_slice());
     samples.push_reserved(sample);
@@ -125,7 +127,6 @@ impl Cache {
     }
 
     /// The sample with a name, `None` where there is none, as for the null string. Takes no memory.
-    #[tactic(auto, using(crate::proofs::Named::sample_is))]
     pub fn get(&self, name: &Option<Text>) -> Option<&Sample>
         ensures value { option_map (λ s. s.now) result ≡ sample_named name.now self.now }
         ensures lawful { IfSome result (λ s. IsSample s.now) }

@@ -259,7 +259,6 @@ impl Uploads {
     }
 
     /// The sample of a connection's upload: `NoEntity` where it has no such upload, `BadState` where not all of its bytes have come.
-    #[tactic(auto, using(crate::proofs::Named::upload_is))]
     pub fn finished(&self, alloc: Global, conn: ConnId, stream: u32) -> Result<Sample, Refusal>
         ensures value { HandledAs result (finished conn stream self.now) }
         ensures lawful { IfOk result IsSample }
