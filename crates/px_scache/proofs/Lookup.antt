@@ -1,6 +1,5 @@
 -- What is found in the cache after a change, and the cache after one more.
-use Rattle.std.proofs.Common.{◌≡◌, ◌≢◌, Bool, true, false, not, cond, List, [], ◌∷◌, ◌++◌, filter, find, bytes_eq, fold, ℕ, Option, None, Some, refl, sym, ap, subst, ◌∙◌, inl, inr}
-use Rattle.std.proofs.lemmas.Bool.{cases_Bool}
+use Rattle.std.proofs.Common.{◌≡◌, Bool, true, false, not, cond, List, [], ◌∷◌, ◌++◌, find, bytes_eq, fold, ℕ, Option, None, Some, refl, ap, ◌∙◌}
 use Rattle.std.specs.Cmp.Lexicographic.{bytes_decides}
 use Rattle.px_scache.specs.declared.sample.Sample.{Sample}
 use Rattle.px_scache.specs.Cache.{Cache, Change, is_called, sample_in, others, stored, removed, changed, cache_of}

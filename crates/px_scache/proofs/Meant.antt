@@ -1,5 +1,5 @@
 -- The packets of a play mean their commands at version 18.
-use Rattle.std.proofs.Common.{arith, ◌≡◌, ℕ, zero, suc, ◌<◌, ◌≤◌, ◌^◌, nat_le, ◌&&◌, Bool, true, false, List, [], ◌∷◌, length, slice_index_or, Option, None, Some, Ok, refl, lit<}
+use Rattle.std.proofs.Common.{arith, ◌≡◌, ℕ, zero, suc, ◌<◌, ◌^◌, nat_le, List, [], ◌∷◌, length, slice_index_or, Option, None, Some, Ok, refl, lit<}
 use Rattle.std.specs.Prelude.{IsTrue}
 use Rattle.px_sample.specs.declared.format.Format.{Format}
 use Rattle.px_sample.specs.declared.format.Format.TheVariants.{U8, Alaw, Ulaw, S16Le, S16Be, Float32Le, Float32Be, S32Le, S32Be, S24Le, S24Be, S24In32Le, S24In32Be}
@@ -63,9 +63,70 @@ create_means tag p is low index volume =
       known = lit< tt;
       tagged = low;
       kinds = refl;
-      each = (spec_is p.sample is.sample, (map_is p.sample is.sample, (index, (name_is p.sink.name is.name, (lit< tt, (tt, (bytes_few p.sample is.sample, (lit< tt, (bytes_few p.sample is.sample, (lit< tt, (volume_is p.volume volume,
-        (tt, (tt, (tt, (tt, (tt, (tt, (tt, (tt, (tt, (refl,
-        (tt, (tt, (tt, (tt, (tt, (tt, (tt, tt))))))))))))))))))))))))))));
+      each = (
+        spec_is p.sample is.sample,
+        (
+          map_is p.sample is.sample,
+          (
+            index,
+            (
+              name_is p.sink.name is.name,
+              (
+                lit< tt,
+                (
+                  tt,
+                  (
+                    bytes_few p.sample is.sample,
+                    (
+                      lit< tt,
+                      (
+                        bytes_few p.sample is.sample,
+                        (
+                          lit< tt,
+                          (
+                            volume_is p.volume volume,
+                            (
+                              tt,
+                              (
+                                tt,
+                                (
+                                  tt,
+                                  (
+                                    tt,
+                                    (
+                                      tt,
+                                      (
+                                        tt,
+                                        (
+                                          tt,
+                                          (
+                                            tt,
+                                            (
+                                              tt,
+                                              (
+                                                refl,
+                                                (tt, (tt, (tt, (tt, (tt, (tt, (tt, tt))))))),
+                                              ),
+                                            ),
+                                          ),
+                                        ),
+                                      ),
+                                    ),
+                                  ),
+                                ),
+                              ),
+                            ),
+                          ),
+                        ),
+                      ),
+                    ),
+                  ),
+                ),
+              ),
+            ),
+          ),
+        ),
+      );
     }) in
     rw again refl
 

@@ -72,8 +72,18 @@ shape_size p is =
     let c : List ℕ = text p.sink.name ++ [] in
     let b : List ℕ = number p.sink.index ++ c in
     let a : List ℕ = channel_map p.sample.map ++ b in
-    omega (arith, length-append (spec (raw_of p.sample.spec)) a, length-append (channel_map p.sample.map) b, length-append (number p.sink.index) c, length-append (text p.sink.name) [],
-      spec_size (raw_of p.sample.spec), map_size p.sample.map, number_size p.sink.index, text_size p.sink.name is.name, is.sample.map.few)
+    omega (
+      arith,
+      length-append (spec (raw_of p.sample.spec)) a,
+      length-append (channel_map p.sample.map) b,
+      length-append (number p.sink.index) c,
+      length-append (text p.sink.name) [],
+      spec_size (raw_of p.sample.spec),
+      map_size p.sample.map,
+      number_size p.sink.index,
+      text_size p.sink.name is.name,
+      is.sample.map.few,
+    )
 
 buffering_size : (p : Play) → length (flat_map spelling (buffering p)) ≡ 32
 unfolding number flag channel_volumes
@@ -104,9 +114,10 @@ create_size tag p is =
     let two = length-append (front ++ a) b in
     let three = length-append ((front ++ a) ++ b) c in
     let four = length-append (((front ++ a) ++ b) ++ c) d in
-    let last = length-append ((((front ++ a) ++ b) ++ c) ++ d) e in
-    (omega (arith, whole, one, two, three, four, last, front_size 3 tag, shape_size p is, buffering_size p, manner_size, no_properties_size, later_size),
-     omega (arith, whole, one, two, three, four, last, front_size 3 tag, shape_size p is, buffering_size p, manner_size, no_properties_size, later_size))
+    let last = length-append ((((front ++ a) ++ b) ++ c) ++ d) e in (
+      omega (arith, whole, one, two, three, four, last, front_size 3 tag, shape_size p is, buffering_size p, manner_size, no_properties_size, later_size),
+      omega (arith, whole, one, two, three, four, last, front_size 3 tag, shape_size p is, buffering_size p, manner_size, no_properties_size, later_size),
+    )
 
 pub create_some : (tag : ℕ) (p : Play) → IsPlay p → 0 < length (create_packet tag p)
 create_some tag p is = (create_size tag p is).0

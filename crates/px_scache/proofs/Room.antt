@@ -1,6 +1,5 @@
 -- The bytes of the samples, where some of them are dropped and one is added.
 use Rattle.std.proofs.Common.{arith, ◌≡◌, ℕ, ◌+◌, ◌≤◌, not, Bool, true, false, cond, List, [], ◌∷◌, ◌++◌, length, refl}
-use Rattle.std.specs.List.{AllByRecursion}
 use Rattle.px_scache.specs.declared.sample.Sample.{Sample}
 use Rattle.px_scache.specs.Cache.{Cache, IsSample, IsCache, is_called, others, stored, bytes_in, bytes_of_other}
 use Rattle.px_scache.proofs.Kept.{kept, joined}

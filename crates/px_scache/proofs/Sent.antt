@@ -1,5 +1,5 @@
 -- The packets of the answers fit frames.
-use Rattle.std.proofs.Common.{arith, ◌≡◌, ℕ, ◌<◌, ◌≤◌, ◌++◌, length, refl}
+use Rattle.std.proofs.Common.{arith, ◌≡◌, ℕ, ◌++◌, length, refl}
 use Rattle.px_tag.specs.Item.{number}
 use Rattle.px_reply.specs.Front.{reply_to, refusal}
 use Rattle.px_scache.specs.Answers.{IsCarried}

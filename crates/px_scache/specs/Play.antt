@@ -1,5 +1,5 @@
 -- The plays of samples: each is a playback stream of the server's own connection, which speaks version 18.
-use Rattle.std.specs.Prelude.{◌≡◌, ℕ, ◌^◌, ◌<◌, ◌≤◌, pos, Bool, true, false, not, cond, ◌||◌, ◌&&◌, nat_eq, nat_lt, nat_le, List, [], ◌∷◌, ◌++◌, length, Option, None, Some, IsTrue, Ok}
+use Rattle.std.specs.Prelude.{ℕ, pos, Bool, true, false, not, cond, ◌||◌, ◌&&◌, nat_eq, nat_lt, nat_le, List, [], ◌∷◌, ◌++◌, length, Option, None, Some, IsTrue, Ok}
 use Rattle.px_types.specs.declared.error_code.ErrorCode.TheVariants.{Invalid, NoEntity, BadState, TooLarge}
 use Rattle.px_tag.specs.Item.{number, is_text}
 use Rattle.px_cmd.specs.declared.command.SinkRef.{SinkRef}
@@ -9,7 +9,6 @@ use Rattle.px_cmd.specs.declared.command.Command.TheVariants.{Create, Drain, Del
 use Rattle.px_cmd.specs.Command.{number_of, fields_of}
 use Rattle.px_cmd.specs.Field.{Field, Number, Flag, String, SampleSpec, Positions, Volumes, Properties}
 use Rattle.px_cmd.specs.Law.{packet_of}
-use Rattle.px_frame.specs.declared.frame.Body.{Body}
 use Rattle.px_frame.specs.declared.frame.Body.TheVariants.{Control, Write}
 use Rattle.px_frame.specs.Spelling.{spelling_of}
 use Rattle.px_reply.specs.Front.{reply_to}

@@ -76,11 +76,7 @@ fn read_remove(alloc: Global, reader: &mut TagReader) -> Result<Request, CmdFaul
 /// The command with this number, whose fields begin where the reader is and take all that is left of the packet, at every version of the
 /// protocol. Each other number is `Unsupported`. Takes memory for names and a property list.
 #[tactic(auto, unfolding(crate::specs::Command::request_at))]
-pub fn read_request(
-    alloc: Global,
-    number: u32,
-    reader: &mut TagReader,
-) -> Result<Request, CmdFault>
+pub fn read_request(alloc: Global, number: u32, reader: &mut TagReader) -> Result<Request, CmdFault>
     ensures { Answers (λ request. request) result (request_at number reader.old) }
 {
     match number {
