@@ -27,7 +27,7 @@ module _ {X : Type 0} (P : X → Type 0) where
   all_of [] all = tt
   all_of (x ∷ xs) all = (all zero x (omega arith), all_of xs (λ i d lt. all (suc i) d (omega (arith, lt))))
 
-  placed : (xs : List X) (i : ℕ) (x : X) → AllByRecursion P xs → slice_get xs i ≡ Some x → P x
+  pub placed : (xs : List X) (i : ℕ) (x : X) → AllByRecursion P xs → slice_get xs i ≡ Some x → P x
   placed [] i x all e = absurd cc
   placed (y ∷ ys) zero x all e = let is : y ≡ x = cc in subst P is all.0
   placed (y ∷ ys) (suc i) x all e = placed ys i x all.1 e
@@ -36,15 +36,15 @@ module _ {X : Type 0} (P : X → Type 0) where
   one_of true y x rest is other e = let same : y ≡ x = cc in subst P same is
   one_of false y x rest is other e = other e
 
-  found : (test : X → Bool) (xs : List X) (x : X) → AllByRecursion P xs → find test xs ≡ Some x → P x
+  pub found : (test : X → Bool) (xs : List X) (x : X) → AllByRecursion P xs → find test xs ≡ Some x → P x
   found test [] x all e = absurd cc
   found test (y ∷ ys) x all e = one_of (test y) y x (find test ys) all.0 (λ f. found test ys x all.1 f) e
 
-present_ok : (value : Option Target) (code : ErrorCode) (t : Target) → present value code ≡ Ok t → value ≡ Some t
+pub present_ok : (value : Option Target) (code : ErrorCode) (t : Target) → present value code ≡ Ok t → value ≡ Some t
 present_ok None code t e = absurd cc
 present_ok (Some x) code t e = let is : x ≡ t = cc in ap (λ (y : Target). Some y) is
 
-checked : (b : Bool) (code : ErrorCode) (rest : Handled Target) (t : Target) → (check b code >>= λ one. rest) ≡ Ok t → rest ≡ Ok t
+pub checked : (b : Bool) (code : ErrorCode) (rest : Handled Target) (t : Target) → (check b code >>= λ one. rest) ≡ Ok t → rest ≡ Ok t
 checked true code rest t e = e
 checked false code rest t e = absurd cc
 

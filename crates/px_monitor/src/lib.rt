@@ -8,14 +8,20 @@ mod checks;
 mod command;
 mod fields;
 mod fragments;
+mod law;
+mod monitor;
+mod parts;
 mod recorded;
 mod recording;
 mod reply;
+mod skips;
 
 pub use answer::Answer;
 pub use command::{Request, read_request};
 pub use fields::RecordFields;
 pub use fragments::{fragments_join, push_data};
+pub use law::{monitors_stand_before_a_world, record_streams_get_what_is_played};
+pub use monitor::{MonitorOutcome, MonitorWorld};
 pub use recorded::Recorded;
 pub use recording::Recording;
 
