@@ -13,10 +13,13 @@ use Rattle.px_world.specs.Event.{frames_played, stopped_by}
 use Rattle.px_world.specs.Output.{effect_record}
 use Rattle.px_monitor.specs.Monitor.{Monitor, new_monitor, monitor_refusal, monitor_after, monitor_effects, sent_after, StandsForMonitor}
 use Rattle.px_monitor.specs.Run.{AreMonitored}
+use Rattle.px_monitor.proofs.Payloads.{run-due}
+use Rattle.px_monitor.proofs.Sieving.{run-admits, run-world, run-shown}
+use Rattle.px_monitor.proofs.Sized.{all-sized}
 use Rattle.px_app.specs.declared.monitor_stage.Monitoring.{Monitoring}
 use Rattle.px_app.specs.Ends.{Ends, Log}
 use Rattle.px_app.specs.Mode.{state_after, AreAdmitted}
-use Rattle.px_app.specs.Monitor.{monitor_course, monitor_part, monitor_mode, IsMonitored, Monitors}
+use Rattle.px_app.specs.Monitor.{monitor_course, monitor_part, monitor_mode, IsMonitored, IsSieved, Monitors}
 use Rattle.px_app.specs.Played.{Played}
 use Rattle.px_app.specs.Records.{turn_sink, turn_part, monitored_part}
 use Rattle.px_app.specs.Stage.{EventDone, EventCut, EventPlayed}
@@ -73,11 +76,20 @@ admitted_run m (e ∷ events) a = (a.0, admitted_run (monitor_after m e) events 
 some_no_none : {L : Type 0} (l : L) → Some l ≡ None → ⊥
 some_no_none l e = cc
 
+is_sieved : (header : Header) (events : List Event) → AreMonitored (new_monitor header) events → IsSieved header events
+is_sieved header events all = record {
+  admitted = run-admits (new_monitor header) events all;
+  world = run-world (new_monitor header) events;
+  shown = run-shown (new_monitor header) events;
+  due = λ h output. run-due (new_monitor header) events output (all-sized header events h);
+}
+
 pub monitors : (answered : Status) (before after : Ends) (log_before log_after : Log) → Played monitor_mode tt answered before after log_before log_after → Monitors answered before after log_before log_after
 monitors answered before after log_before log_after x =
     let p = plays monitor_mode tt answered before after log_before log_after x in
     record {
       plays = p;
       run = λ is. admitted_run (new_monitor (p.ok is).header) (p.ok is).events (p.ok is).played.admitted;
+      sieved = λ is. is_sieved (p.ok is).header (p.ok is).events (admitted_run (new_monitor (p.ok is).header) (p.ok is).events (p.ok is).played.admitted);
       named = λ is. some_no_none tt (p.no_such_sink is).unnamed;
     }
