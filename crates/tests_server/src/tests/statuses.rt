@@ -42,7 +42,7 @@ const TAPED: &str = "serve --header h --socket s --out o --accept 1 --tape";
 // fails, 0 for none, and how the server ends: its status, and its log's line without the name and the line feed.
 type Row = (&'static str, usize, usize, u64, Status, &'static [u8]);
 
-const USAGE: &[u8] = b"usage: replay [--raw SINK], summary, convert, gen NUMBER COUNT, serve OPTIONS";
+const USAGE: &[u8] = b"usage: replay [--raw SINK | --monitor], summary, convert, gen NUMBER COUNT, serve OPTIONS";
 
 // Where the tape can't be written and the host fails, the host's fault decides.
 const ROWS: [Row; 6] = [
