@@ -45,8 +45,8 @@ returns-clause-err g c =
     let now = g.K.Sink.held c.write_effects-2.new.output in
     let first : mid ≡ after_adding old effects = c.in_ok-write_effects.ensures.ok ∙ ap (λ (es : List Effect). after_adding old (flat_map effect_record es)) c.as_slice.ensures.items in
     let both : later ≡ after_adding old (effects ++ turn c.args.outcome.now.played) =
-        c.in_ok-write_turn.ensures.ok ∙ ap (λ (bytes : List ℕ). after_adding mid (turn bytes)) c.as_slice-2.ensures
-        ∙ ap (λ (held : Option (List ℕ)). after_adding held (turn c.args.outcome.now.played)) first ∙ adding_both effects (turn c.args.outcome.now.played) old in
+    c.in_ok-write_turn.ensures.ok ∙ ap (λ (bytes : List ℕ). after_adding mid (turn bytes)) c.as_slice-2.ensures
+    ∙ ap (λ (held : Option (List ℕ)). after_adding held (turn c.args.outcome.now.played)) first ∙ adding_both effects (turn c.args.outcome.now.played) old in
     on_err_weaker c.write_effects-2.result
     (λ cut. second_cut (effects ++ turn c.args.outcome.now.played) sent old later now both
     (subst (λ (es : List Effect). AddsFront (flat_map effect_record es) later now) c.as_slice-3.ensures.items cut)) c.write_effects-2.ensures.err
