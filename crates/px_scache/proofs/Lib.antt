@@ -6,4 +6,3 @@ pub mod Lookup
 pub mod Meant
 pub mod Sent
 pub mod Named
-pub mod Again
