@@ -1,14 +1,14 @@
 #!/usr/bin/env python3
 """Writes a recorded session that plays SECONDS of sound from STREAMS streams.
 
-  bench/session_of_streams.py SECONDS STREAMS [DEPTH [QUEUED]] > FILE.prs
+  bench/session_of_streams.py SECONDS STREAMS [DEPTH [QUEUED]] [--record] > FILE.prs
 
 One sink of S16LE, stereo, at 48,000 frames a second. Each turn plays 480 frames; before it each stream is sent its
 next 480 frames, and after it all notices are collected. The guard is a turn, and the depth two (960 frames) where nothing
 else is said, so that each frame is mixed once; with DEPTH frames a mixer that mixes all of them anew at each turn mixes each
 frame DEPTH / 480 - 1 times. QUEUED frames of each stream wait at each turn, as many as the depth where nothing else is said.
 Both are whole turns. Up to 64 streams each is of a client of its own, above that four are of one. All streams keep playing from
-their first frame to the end, a tone each."""
+their first frame to the end, a tone each. With --record one more client records what the sink plays (for `replay --monitor`)."""
 
 import math
 import os
@@ -33,6 +33,13 @@ auth {0} tag 0 version 13
 """
 STREAM = """
 create {0} tag 1 s16le 2 48000 map 1,2 prebuf 0 tlength {1} minreq 1920
+"""
+
+
+RECORD = """
+connect 1000
+auth 1000 tag 0 version 13
+create-record 1000 tag 1 s16le 2 48000 map 1,2
 """
 
 
@@ -61,10 +68,11 @@ def events_of_data(streams):
     ]
 
 
-def write(out, seconds, streams, depth=2 * TURN, queued=2 * TURN):
+def write(out, seconds, streams, depth=2 * TURN, queued=2 * TURN, record=False):
     # A stream asks for two turns more than wait, so that it asks for a turn's frames at each turn.
     target = FRAME * (queued + 2 * TURN)
     clients = "".join((CLIENT.format(conn) if channel == 0 else "") + STREAM.format(conn, target) for conn, channel in places(streams))
+    clients += RECORD if record else ""
     out.write(make(FIRST.format(depth) + clients + "end\n")[:-1])
     data = events_of_data(streams)
     ahead = queued // TURN
@@ -80,6 +88,8 @@ def write(out, seconds, streams, depth=2 * TURN, queued=2 * TURN):
 
 
 def main(words):
+    record = "--record" in words
+    words = [word for word in words if word != "--record"]
     numbers = [int(word) for word in words if word.isdecimal()]
     if not 2 <= len(words) <= 4 or len(numbers) < len(words):
         print(__doc__, file=sys.stderr)
@@ -90,7 +100,7 @@ def main(words):
     if not 1 <= streams <= 256 or depth % TURN or queued % TURN or not 2 * TURN <= depth <= min(queued, 65_280):
         print(__doc__, file=sys.stderr)
         return 2
-    write(sys.stdout.buffer, seconds, streams, depth, queued)
+    write(sys.stdout.buffer, seconds, streams, depth, queued, record)
     return 0
 
 

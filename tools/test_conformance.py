@@ -62,6 +62,21 @@ class Running(unittest.TestCase):
         rows += [f"recorded/{name}" for name in ("paplay", "aplay_alsa_plugin_18", "pacat_s24le_18", "pactl_list_18", "sox_play_18")]
         self.assertEqual(self.run_rows("", *rows), (0, f"{len(rows)} passed, 0 failed\n", ""))
 
+    def test_record_streams_are_reckoned(self):
+        """All rows of the mode but those that are refused and the one with subscriptions, which the reckoner doesn't know; one without the mode."""
+        names = {name.rsplit(".", 1)[0] for name in os.listdir(os.path.join(TOP, "conformance", "monitors"))}
+        rows = [f"monitors/{name}" for name in sorted(names - {"frames_of_some", "no_messages", "not_live", "subscribed"})]
+        self.assertEqual(self.run_rows("", *rows), (0, f"{len(rows)} passed, 0 failed\n", ""))
+        cut = [f"monitors/{name}" for name in ("in_one_event", "in_pieces", "faults_after_its_own")]
+        self.assertEqual(self.run_rows("", "--cut", "7", "--convert", *cut), (0, "9 passed, 0 failed\n", ""))
+
+    def test_rows_of_replay_by_the_other_word(self):
+        """They are played twice, but for those in which a client sends a command of record streams."""
+        rows = ("turns/seeks", "turns/silence", "monitors/by_replay", "monitors/created", "auth/once")
+        self.assertEqual(self.run_rows("", "--monitor", *rows), (0, "8 passed, 0 failed\n", ""))
+        status, said, _ = self.run_rows("said[-3] ^= '--monitor' in sys.argv", "--monitor", "--cut", "9", "turns/seeks")
+        self.assertEqual((status, said.splitlines()[0], said.splitlines()[-1]), (1, "turns/seeks, in pieces of 9, by --monitor", "1 passed, 1 failed"))
+
     def test_a_byte_that_differs_is_told(self):
         # the last sample of the record that plays stands before the end byte
         status, said, _ = self.run_rows("said[-3] ^= 1", "turns/seeks", "turns/silence")

@@ -3,6 +3,7 @@ pub mod LineLaws
 pub mod SummaryLaws
 pub mod FrontLaws
 pub mod ModeLaws
+pub mod MonitorLaws
 pub mod ReadLaws
 pub mod BeginLaws
 pub mod RefuseLaws

@@ -6,12 +6,12 @@ use Rattle.std.proofs.lemmas.Option.{same_Some}
 use Rattle.std.proofs.lemmas.Bool.{le-ltb, lt-ltb, lt-leb, le-leb, ltb-true, ltb-false, and_left, and_right, and_from}
 use Rattle.px_app.specs.Words.{is_digit, digits_behind, in_64_bits, meaning_in}
 
-pub other_words : (words : List (String Global)) → (length words ≡ 1 → ⊥) → (length words ≡ 3 → ⊥) → meaning_in (map string_bytes words) ≡ None
-other_words [] one three = refl
-other_words (x ∷ []) one three = absurd (one refl)
-other_words (x ∷ y ∷ []) one three = refl
-other_words (x ∷ y ∷ z ∷ []) one three = absurd (three refl)
-other_words (x ∷ y ∷ z ∷ w ∷ more) one three = refl
+pub other_words : (words : List (String Global)) → (length words ≡ 1 → ⊥) → (length words ≡ 2 → ⊥) → (length words ≡ 3 → ⊥) → meaning_in (map string_bytes words) ≡ None
+other_words [] one two three = refl
+other_words (x ∷ []) one two three = absurd (one refl)
+other_words (x ∷ y ∷ []) one two three = absurd (two refl)
+other_words (x ∷ y ∷ z ∷ []) one two three = absurd (three refl)
+other_words (x ∷ y ∷ z ∷ w ∷ more) one two three = refl
 
 -- ---- numbers
 

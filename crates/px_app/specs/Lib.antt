@@ -1,6 +1,7 @@
 pub mod Ends
 pub mod Refusal
 pub mod Mode
+pub mod Monitor
 pub mod Session
 pub mod Summary
 pub mod View

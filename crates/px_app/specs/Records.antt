@@ -30,3 +30,7 @@ abbrev pub shown_part : Lens → Option ℕ → List Effect → Option ℕ → �
 shown_part lens.Records sink effects stopped frames played = flat_map effect_record effects ++ turn_part sink stopped frames played
 shown_part (lens.Raw k) sink effects stopped frames played = raw_part sink k played
 shown_part lens.Summary sink effects stopped frames played = []
+
+-- in a world with monitors: the records of an event with these effects, this stop and this sound, and of these frames to record streams
+abbrev pub monitored_part : Option ℕ → List Effect → Option ℕ → ℕ → List ℕ → List Effect → List ℕ
+monitored_part sink effects stopped frames played sent = flat_map effect_record effects ++ turn_part sink stopped frames played ++ flat_map effect_record sent

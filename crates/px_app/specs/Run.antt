@@ -11,12 +11,13 @@ use Rattle.px_app.specs.Convert.{Converts}
 use Rattle.px_app.specs.Ends.{Ends, Log, ends_of, log_end}
 use Rattle.px_app.specs.Fine.{IsFine}
 use Rattle.px_app.specs.Making.{Generates}
+use Rattle.px_app.specs.Monitor.{Monitors}
 use Rattle.px_app.specs.Plays.{IsAccounted}
 use Rattle.px_app.specs.Replay.{Replays}
 use Rattle.px_app.specs.Report.{Reported}
 use Rattle.px_app.specs.Serving.{Served}
 use Rattle.px_app.specs.Tape.{out_end}
-use Rattle.px_app.specs.Words.{Command, Replay, Convert, Gen, Serve, Other}
+use Rattle.px_app.specs.Words.{Command, Replay, Monitor, Convert, Gen, Serve, Other}
 
 -- the input, the output, the log and the host of a run
 pub record Outside (D R C : Type 0) : Type 0 where
@@ -38,6 +39,7 @@ pub record IsUsage (answered : Status) (before after : Ends) (log_before log_aft
 -- what is done by words other than those of `serve`
 abbrev pub DoesAlone : Command → Status → Ends → Ends → Log → Log → Type 0
 DoesAlone (Replay shown) answered before after log_before log_after = Replays shown answered before after log_before log_after
+DoesAlone Monitor answered before after log_before log_after = Monitors answered before after log_before log_after
 DoesAlone Convert answered before after log_before log_after = Converts answered before after log_before log_after
 DoesAlone (Gen number count) answered before after log_before log_after = Generates number count answered before after log_before log_after
 DoesAlone Other answered before after log_before log_after = IsUsage answered before after log_before log_after
@@ -58,6 +60,7 @@ module _ {D R C : Type 0} (core_visible : C → Option (List CoreEntry)) (core_f
   abbrev pub Does : Command → List (List ℕ) → Status → Outside D R C → Outside D R C → Type 0
   Does Serve texts answered before after = Serves texts answered before after
   Does (Replay shown) texts answered before after = Replays shown answered before.ends after.ends before.log after.log × (after.host ≡ before.host)
+  Does Monitor texts answered before after = Monitors answered before.ends after.ends before.log after.log × (after.host ≡ before.host)
   Does Convert texts answered before after = Converts answered before.ends after.ends before.log after.log × (after.host ≡ before.host)
   Does (Gen number count) texts answered before after = Generates number count answered before.ends after.ends before.log after.log × (after.host ≡ before.host)
   Does Other texts answered before after = IsUsage answered before.ends after.ends before.log after.log × (after.host ≡ before.host)

@@ -10,6 +10,8 @@ mod ending;
 mod law;
 mod log;
 mod making;
+mod monitor_stage;
+mod monitoring;
 mod playing;
 mod program;
 mod reading;
@@ -33,6 +35,7 @@ pub use law::{
     conversions_replay_the_same, inputs_are_played_or_refused, refusals_are_final,
     replays_are_runs_of_the_world,
 };
+pub use monitoring::replay_monitor;
 pub use program::run;
 pub use refusal::{Refusal, Why};
 pub use replaying::replay;

@@ -6,11 +6,12 @@ ghost use Rattle.px_ends.specs.Visible.{after_adding};
 ghost use Rattle.px_ends.specs.Whole.{AddsFront};
 ghost use Rattle.px_state.specs.Effect.{IsSendable, AreSendable};
 ghost use Rattle.px_world.specs.Output.{effect_record};
-ghost use Rattle.px_app.specs.Records.{turn_sink, turn_part, raw_part, shown_part};
+ghost use Rattle.px_app.specs.Records.{turn_sink, turn_part, raw_part, shown_part, monitored_part};
 
 use crate::view::Lens;
 use px_core::Effect;
 use px_ends::{Sink, write_all};
+use px_monitor::MonitorOutcome;
 use px_session::{Event, OutRecord, WriteError, write_effect};
 use px_world::Outcome;
 
@@ -107,6 +108,29 @@ fn write_records<K: Sink>(
         outcome.frames,
         outcome.played.as_slice(),
     )
+}
+
+/// Writes the records of what an event did in a world with monitors: of its effects, of a turn, whose sink is `sink`, and then of what
+/// record streams are sent. Takes no memory.
+pub(crate) fn write_monitored<K: Sink>(
+    output: &mut K,
+    sink: Option<u8>,
+    outcome: &MonitorOutcome,
+) -> Result<(), WriteError>
+    ensures ok { OnOk result (K.held output.new ≡ after_adding (K.held output.old)
+        (monitored_part sink outcome.now.effects outcome.now.stopped outcome.now.frames outcome.now.played outcome.now.sent)) }
+    ensures err { OnErr result (AddsFront
+        (monitored_part sink outcome.now.effects outcome.now.stopped outcome.now.frames outcome.now.played outcome.now.sent) (K.held output.old) (K.held output.new)) }
+{
+    write_effects(output, outcome.effects.as_slice())?;
+    write_turn(
+        output,
+        sink,
+        outcome.stopped,
+        outcome.frames,
+        outcome.played.as_slice(),
+    )?;
+    write_effects(output, outcome.sent.as_slice())
 }
 
 // Writes the bytes that a turn of sink `of` consumed.

@@ -1,7 +1,7 @@
 //! What the words of the command line mean.
 
 ghost use Rattle.std.specs.Prelude.{◌≡◌, map, option_map, string_bytes};
-ghost use Rattle.px_app.specs.Words.{number_in, in_64_bits, gen_of, of_one, of_three, meaning_in, meaning_of};
+ghost use Rattle.px_app.specs.Words.{number_in, in_64_bits, gen_of, of_one, of_two, of_three, meaning_in, meaning_of};
 
 use crate::view::View;
 
@@ -13,6 +13,8 @@ const MOST_STEPS: u64 = 1_000_000;
 pub(crate) enum Words<'a> {
     /// A session is replayed.
     Replay(View<'a>),
+    /// A session is replayed in a world with monitors.
+    Monitor,
     /// A session is converted.
     Convert,
     /// A session is generated.
@@ -56,6 +58,16 @@ fn one(word: &str) -> Option<Words<'_>>
     }
 }
 
+fn two(first: &str, second: &str) -> Option<Words<'static>>
+    ensures { option_map meaning_of result ≡ of_two first.now second.now }
+{
+    if first == "replay" && second == "--monitor" {
+        Some(Words::Monitor)
+    } else {
+        None
+    }
+}
+
 fn generating(number: Option<u64>, count: Option<u64>) -> Option<Words<'static>>
     ensures { option_map meaning_of result ≡ gen_of number count }
 {
@@ -86,6 +98,7 @@ pub(crate) fn meaning(words: &[String]) -> Option<Words<'_>>
 {
     match words {
         [word] => one(word.as_str()),
+        [first, second] => two(first.as_str(), second.as_str()),
         [first, second, third] => three(first.as_str(), second.as_str(), third.as_str()),
         _ => None,
     }

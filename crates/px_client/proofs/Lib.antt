@@ -1,0 +1,12 @@
+pub mod Names
+pub mod Sizes
+pub mod Spoken
+pub mod Read
+pub mod Written
+pub mod Unmoved
+pub mod Heard
+pub mod Loops
+pub mod Scanned
+pub mod Talking
+pub mod Ordered
+pub mod Layouts

@@ -1,0 +1,10 @@
+pub mod Errand
+pub mod Answers
+pub mod Dialogue
+pub mod Answered
+pub mod Written
+pub mod Causes
+pub mod Hearing
+pub mod Listing
+pub mod Outcome
+pub mod Layout

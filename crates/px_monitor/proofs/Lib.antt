@@ -1,0 +1,10 @@
+pub mod Sequence
+pub mod Kept
+pub mod Joining
+pub mod Sieving
+pub mod Handing
+pub mod Payloads
+pub mod Partly
+pub mod Goes
+pub mod Events
+pub mod Sized

@@ -1,0 +1,41 @@
+use Rattle.std.proofs.Common.{rules, ◌≡◌, Some, None, sym, subst, ◌∙◌}
+use Rattle.px_sieve.specs.Sieve.{next}
+use Rattle.px_monitor.specs.declared.parts.Parts.{Parts}
+use Rattle.px_monitor.specs.Monitor.{hearing, handed_out, handled_in, piece_items, running_on, StandsForMonitor}
+use Rattle.px_monitor.proofs.Goes.{GoesOn, goes-first, goes-next, goes-after, not-handed}
+use Rattle.px_monitor.proofs.parts.hear.Goals as goal
+
+pub loop-effects-init : goal.loop-effects-init
+loop-effects-init c = λ m stands.
+    let was = c.args.parts.now in
+    let start = hearing m c.args.conn c.args.bytes.now in
+    subst (λ effects. GoesOn c.args.conn effects (record { world = was.world; sieve = c.pass.new.self; skips = was.skips; records = was.records }) start) (sym c.new-effects.ensures)
+    (goes-first c.args.conn (record { world = was.world; sieve = c.pass.new.self; skips = was.skips; records = was.records }) start
+    (record { world = stands.world; sieve = c.in_ok-pass.ensures m.sieve stands.sieve; skips = stands.skips; records = stands.records }))
+
+pub loop-effects-preserved : goal.loop-effects-preserved
+loop-effects-preserved c = λ m stands.
+    let conn = c.args.conn in
+    let piece = c.in-Some.piece in
+    let parts = c.loop-effects.parts in
+    let g = c.loop-effects.invariant m stands in
+    let out = handed_out g.now conn in
+    let given : Some piece ≡ next g.now.sieve conn = sym c.in-Some.is ∙ c.in_ok-piece.ensures.piece g.now.sieve g.stands.sieve in
+    let handed : StandsForMonitor (record { world = parts.world; sieve = c.next.new.self; skips = parts.skips; records = parts.records }) out =
+    record { world = g.stands.world; sieve = c.in_ok-piece.ensures.after g.now.sieve g.stands.sieve; skips = g.stands.skips; records = g.stands.records } in
+    goes-next conn c.loop-effects.effects c.append.new.self c.in_ok-more.more piece parts c.see.new.parts (hearing m conn c.args.bytes.now) g given
+    (c.in_ok-more.ensures.effects out handed)
+    (c.see.ensures.after (running_on (handled_in out conn piece) (piece_items out conn piece)) (c.in_ok-more.ensures.after out handed))
+    c.in_ok-append.ensures.ok
+
+pub returns-clause-after : goal.returns-clause-after
+returns-clause-after c = λ m stands.
+    let conn = c.args.conn in
+    let parts = c.loop-effects.parts in
+    let g = c.loop-effects.invariant m stands in
+    let nothing : c.in_ok-piece.field-0 ≡ None = search rules in
+    let none : None ≡ next g.now.sieve conn = sym nothing ∙ c.in_ok-piece.ensures.piece g.now.sieve g.stands.sieve in
+    let later : Parts = record { world = parts.world; sieve = c.next.new.self; skips = parts.skips; records = parts.records } in
+    subst (StandsForMonitor later)
+    (not-handed g.now conn none ∙ goes-after conn c.loop-effects.effects parts later (hearing m conn c.args.bytes.now) g none)
+    (record { world = g.stands.world; sieve = c.in_ok-piece.ensures.after g.now.sieve g.stands.sieve; skips = g.stands.skips; records = g.stands.records })

@@ -1,0 +1,7 @@
+pub mod Command
+pub mod Records
+pub mod Create
+pub mod Fragments
+pub mod Monitor
+pub mod Run
+pub mod MonitorOutcome

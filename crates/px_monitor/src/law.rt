@@ -1,0 +1,29 @@
+// The laws of the definitions.
+
+ghost use Rattle.std.specs.Prelude.{◌≡◌, ℕ, List};
+ghost use Rattle.px_header.specs.declared.header.Header.{Header};
+ghost use Rattle.px_header.specs.HeaderRules.{IsHeader};
+ghost use Rattle.px_session.specs.declared.event.Event.{Event};
+ghost use Rattle.px_world.specs.World.{new_world};
+ghost use Rattle.px_world.specs.Output.{world_by, AreAdmitted};
+ghost use Rattle.px_sieve.specs.Scene.{inner, shown_by};
+ghost use Rattle.px_monitor.specs.Monitor.{new_monitor};
+ghost use Rattle.px_monitor.specs.Run.{monitor_by, AreMonitored, items_by, effects_shown, due_by, sent_by, payloads};
+
+/// In a run of events that are admitted, the world admits each event that it gets, it is the world after these events, and the
+/// effects that are shown are theirs, with the replies to the commands on record streams in their places. Source: own.
+pub fn monitors_stand_before_a_world()
+    ensures admitted { (header : Header) (events : List Event) → AreMonitored (new_monitor header) events
+        → AreAdmitted (new_world header) (inner (items_by (new_monitor header) events)) }
+    ensures world { (header : Header) (events : List Event)
+        → (monitor_by (new_monitor header) events).world ≡ world_by (new_world header) (inner (items_by (new_monitor header) events)) }
+    ensures effects { (header : Header) (events : List Event)
+        → effects_shown (new_monitor header) events ≡ shown_by (new_world header) (items_by (new_monitor header) events) }
+{}
+
+/// The payloads of the frames that a record stream is sent, joined, are the bytes that its sink plays from its creation to its
+/// end. The record stream is named by its source output, whose number no other one has. Source: own.
+pub fn record_streams_get_what_is_played()
+    ensures { (header : Header) (events : List Event) (output : ℕ) → IsHeader header
+        → payloads (sent_by (new_monitor header) events output) ≡ due_by (new_monitor header) events output }
+{}

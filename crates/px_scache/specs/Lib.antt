@@ -1,0 +1,5 @@
+pub mod Command
+pub mod Uploads
+pub mod Cache
+pub mod Play
+pub mod Answers

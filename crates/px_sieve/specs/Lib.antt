@@ -1,0 +1,5 @@
+pub mod Segment
+pub mod Piece
+pub mod Sieve
+pub mod Standing
+pub mod Scene
