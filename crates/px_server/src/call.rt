@@ -109,6 +109,7 @@ fn make_outside<H: Host>(
     ensures front { IsFrontOf (map start_of idle.new.items) (starts_of header.now.sinks) }
     ensures none { IfOk result (λ recorder. IfSome (H.C.visible recorder) (λ entries. entries ≡ [])) }
     ensures unfailed { IfOk result (λ recorder. (H.C.faults recorder ≡ 0) × (H.C.fulls recorder ≡ 0)) }
+    ensures dialled { H.dialled host.new ≡ H.dialled host.old }
 {
     make_all(alloc, taped, header, host, idle, ends)?;
     match host.core_recorder(alloc) {
@@ -226,6 +227,7 @@ where
     ensures lent { (H.now host.new).lent ≡ (H.now host.old).lent }
     ensures count { IsSome result.core → length result.lanes.items ≡ length header.now.sinks }
     ensures tape { HasTape H.R.visible taped result.status result.lanes.items result.tape }
+    ensures dialled { H.dialled host.new ≡ H.dialled host.old }
 {
     let Made {
         idle,
@@ -267,6 +269,7 @@ where
     ensures served { IsServed H.C.visible H.C.faults H.C.fulls H.D.now H.R.visible H.R.faults H.R.fulls header.now (H.now host.old) (H.now host.new) result.status result.lanes.items result.core }
     ensures exact { IsSome result.core → Lends (length result.lanes.items) 1 (H.now host.old) (H.now host.new) }
     ensures tape { HasTape H.R.visible taped result.status result.lanes.items result.tape }
+    ensures dialled { H.dialled host.new ≡ H.dialled host.old }
 {
     let mut idle = VecDeque::new(alloc);
     let mut ends = Vec::new(alloc);
@@ -309,6 +312,7 @@ where
     ensures served { IsServed H.C.visible H.C.faults H.C.fulls H.D.now H.R.visible H.R.faults H.R.fulls header.now (H.now host.old) (H.now host.new) result.status result.lanes.items result.core }
     ensures exact { IsSome result.core → Lends (length result.lanes.items) 1 (H.now host.old) (H.now host.new) }
     ensures tape { HasTape H.R.visible taped result.status result.lanes.items result.tape }
+    ensures dialled { H.dialled host.new ≡ H.dialled host.old }
 {
     let mut lanes = Vec::new(alloc);
     let mut turns = Vec::new(alloc);

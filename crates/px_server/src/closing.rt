@@ -91,6 +91,7 @@ where
     ensures lent { (H.now host.new).lent ≡ (H.now host.old).lent }
     ensures ends { Ends H.C.visible H.C.faults H.C.fulls L.began H.D.now H.R.visible H.R.faults H.R.fulls (map start_of idle.items) (H.now host.old) (H.now host.new) result.status result.lanes.items result.core }
     ensures core { IsSome result.core }
+    ensures dialled { H.dialled host.new ≡ H.dialled host.old }
 {
     let handle = WorkerHandle { core: handle };
     let (handle, stop) = serve_all(handle, host, gate, &mut idle);

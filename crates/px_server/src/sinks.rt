@@ -81,6 +81,7 @@ fn outside<H: Host>(alloc: Global, sink: &SinkSpec, host: &mut H) -> Result<(H::
     ensures lent_stays { OnErr result ((n : ℕ) → HasLent n 0 (H.now host.old) → HasLent n 0 (H.now host.new)) }
     ensures cause { IfErr result (λ fault. IsCauseOf (stop_by fault) (H.now host.old) (H.now host.new)) }
     ensures fresh { IfOk result (λ made. IsFresh sink.now (H.D.now made.0) (H.R.visible made.1) (H.R.faults made.1) (H.R.fulls made.1)) }
+    ensures dialled { H.dialled host.new ≡ H.dialled host.old }
 {
     let device = host.device(alloc, sink.name.as_slice(), &shape_of(sink))?;
     let recorder = host.lane_recorder(alloc)?;
@@ -158,6 +159,7 @@ fn new_sink_state<H: Host>(
     ensures lent_stays { OnErr result ((n : ℕ) → HasLent n 0 (H.now host.old) → HasLent n 0 (H.now host.new)) }
     ensures cause { IfErr result (λ stop. IsCauseOf stop (H.now host.old) (H.now host.new)) }
     ensures made { IfOk result (λ made. IsMade taped index sink.now made.0 made.1) }
+    ensures dialled { H.dialled host.new ≡ H.dialled host.old }
 {
     let (device, recorder) = match outside(alloc, sink, host) {
         Ok(made) => made,
@@ -219,6 +221,7 @@ fn make_one<H: Host>(
     ensures cause { IfErr result (λ stop. IsCauseOf stop (H.now host.old) (H.now host.new)) }
     ensures made { OnOk result (AddsOne taped (record { 0 = index }) sink.now idle.old.items ends.old.items idle.new.items ends.new.items) }
     ensures stays { OnErr result (idle.new.items ≡ idle.old.items) }
+    ensures dialled { H.dialled host.new ≡ H.dialled host.old }
 {
     let Ok(()) = reserve_one(idle, ends) else {
         return Err(Stop::Memory);
@@ -247,6 +250,7 @@ fn make_from<H: Host>(
     ensures cause { IfErr result (λ stop. IsCauseOf stop (H.now host.old) (H.now host.new)) }
     ensures made { OnOk result (AddsAll taped index sinks.now idle.old.items ends.old.items idle.new.items ends.new.items) }
     ensures front { Adds (map start_of idle.old.items) (starts_from index sinks.now) (map start_of idle.new.items) }
+    ensures dialled { H.dialled host.new ≡ H.dialled host.old }
 {
     match sinks.split_first() {
         None => Ok(()),
@@ -275,6 +279,7 @@ pub(crate) fn make_all<H: Host>(
     ensures cause { IfErr result (λ stop. IsCauseOf stop (H.now host.old) (H.now host.new)) }
     ensures made { OnOk result (AreMade taped 0 header.now.sinks idle.new.items ends.new.items) }
     ensures front { IsFrontOf (map start_of idle.new.items) (starts_of header.now.sinks) }
+    ensures dialled { H.dialled host.new ≡ H.dialled host.old }
 {
     make_from(alloc, taped, 0, header.sinks.as_slice(), host, idle, ends)
 }

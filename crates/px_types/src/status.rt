@@ -25,6 +25,14 @@ pub enum Status {
     NoSuchSink,
     /// A history that is held in memory has reached its limit.
     HistoryFull,
+    /// The server that a control client asked refused with an error code.
+    Denied,
+    /// What the server sent a control client isn't the reply to its packet.
+    BadReply,
+    /// The server closed a control client's link before its reply.
+    Gone,
+    /// A control client's link wasn't ready for 1,000,000 calls in a row.
+    Silent,
 }
 
 impl Status {
@@ -43,6 +51,10 @@ impl Status {
             Status::Host => 7,
             Status::NoSuchSink => 8,
             Status::HistoryFull => 9,
+            Status::Denied => 10,
+            Status::BadReply => 11,
+            Status::Gone => 12,
+            Status::Silent => 13,
         }
     }
 }

@@ -12,6 +12,7 @@ pub(crate) fn ask<H: Host>(host: &mut H) -> Result<(), Stop>
     ensures calm { OnOk result (IsCalm (H.now host.old) (H.now host.new)) }
     ensures lent { (H.now host.new).lent ≡ (H.now host.old).lent }
     ensures cause { IfErr result (λ stop. IsCauseOf stop (H.now host.old) (H.now host.new)) }
+    ensures dialled { H.dialled host.new ≡ H.dialled host.old }
 {
     if host.may_start() {
         Ok(())
@@ -27,6 +28,7 @@ pub(crate) fn next_link<H: Host>(alloc: Global, host: &mut H) -> Result<(H::L, O
     ensures calm { OnOk result (IsCalm (H.now host.old) (H.now host.new)) }
     ensures lent { (H.now host.new).lent ≡ (H.now host.old).lent }
     ensures cause { IfErr result (λ stop. IsCauseOf stop (H.now host.old) (H.now host.new)) }
+    ensures dialled { H.dialled host.new ≡ H.dialled host.old }
 {
     match host.accept(alloc) {
         Accepted::Link(mut link) => {

@@ -137,6 +137,7 @@ where
         ensures links { OnOk result (((H.now host.old).links < 65535) × ((H.now host.new).links ≡ (H.now host.old).links + 1)) }
         ensures calm { OnOk result (IsCalm (H.now host.old) (H.now host.new)) }
         ensures cause { IfErr result (λ stop. IsCauseOf stop (H.now host.old) (H.now host.new)) }
+        ensures dialled { H.dialled host.new ≡ H.dialled host.old }
     {
         self.reap();
         let (link, outlet) = next_link(self.handle.alloc(), host)?;
@@ -148,6 +149,7 @@ where
         requires room { HasRoom (record { parts = W.parts self.old.handle; clients = length self.old.clients.items; sinks = self.old.sinks; host = H.now host.old }) }
         ensures takes { Takes (record { parts = W.parts self.old.handle; clients = length self.old.clients.items; sinks = self.old.sinks; host = H.now host.old }) (record { parts = W.parts self.new.handle; clients = length self.new.clients.items; sinks = self.new.sinks; host = H.now host.new }) }
         ensures cause { IsCauseOf result (H.now host.old) (H.now host.new) }
+        ensures dialled { H.dialled host.new ≡ H.dialled host.old }
     {
         loop {
             if let Err(stop) = self.accept_one(host) {
@@ -168,6 +170,7 @@ where
         ensures fewer { OnOk result (length idle.new.items < length idle.old.items) }
         ensures calm { OnOk result (IsCalm (H.now host.old) (H.now host.new)) }
         ensures cause { IfErr result (λ stop. IsCauseOf stop (H.now host.old) (H.now host.new)) }
+        ensures dialled { H.dialled host.new ≡ H.dialled host.old }
     {
         ask(host)?;
         match start_next(&mut self.handle, &self.gate, &mut self.sinks, idle) {
@@ -186,6 +189,7 @@ where
         ensures starts { Starts (record { parts = W.parts self.old.handle; clients = self.old.clients; sinks = self.old.sinks.items; idle = idle.old.items; capacity = deque_capacity idle.old; host = H.now host.old }) (record { parts = W.parts self.new.handle; clients = self.new.clients; sinks = self.new.sinks.items; idle = idle.new.items; capacity = deque_capacity idle.new; host = H.now host.new }) }
         ensures calm { OnOk result (IsCalm (H.now host.old) (H.now host.new)) }
         ensures cause { IfErr result (λ stop. IsCauseOf stop (H.now host.old) (H.now host.new)) }
+        ensures dialled { H.dialled host.new ≡ H.dialled host.old }
     {
         while !idle.is_empty() {
             self.start_one(idle, host)?;
@@ -204,6 +208,7 @@ where
         ensures later { IsLater (H.now host.old) (H.now host.new) }
         ensures lent { (H.now host.new).lent ≡ (H.now host.old).lent }
         ensures cause { IsCauseOf result (H.now host.old) (H.now host.new) }
+        ensures dialled { H.dialled host.new ≡ H.dialled host.old }
     {
         match self.start_sinks(idle, host) {
             Ok(()) => self.accept_all(host),
@@ -254,6 +259,7 @@ where
         ensures later { IsLater (H.now host.old) (H.now host.new) }
         ensures lent { (H.now host.new).lent ≡ (H.now host.old).lent }
         ensures cause { IsCauseOf result.1 (H.now host.old) (H.now host.new) }
+        ensures dialled { H.dialled host.new ≡ H.dialled host.old }
     {
         let stop = self.work(host, idle);
         (self.joined(idle), stop)
@@ -288,6 +294,7 @@ where
     ensures later { IsLater (H.now host.old) (H.now host.new) }
     ensures lent { (H.now host.new).lent ≡ (H.now host.old).lent }
     ensures cause { IsCauseOf result.1 (H.now host.old) (H.now host.new) }
+    ensures dialled { H.dialled host.new ≡ H.dialled host.old }
 {
     Serving::<W, H, G>::new(handle, gate).worked(host, idle)
 }

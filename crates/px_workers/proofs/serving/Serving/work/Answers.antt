@@ -31,6 +31,9 @@ returns-in-Ok-clause-later g c = later_later _ _ _ c.start_sinks.ensures.starts.
 pub returns-in-Ok-clause-lent : goal.returns-in-Ok-clause-lent
 returns-in-Ok-clause-lent g c = c.accept_all.ensures.takes.lent ∙ c.start_sinks.ensures.starts.lent
 
+pub returns-in-Ok-clause-dialled : goal.returns-in-Ok-clause-dialled
+returns-in-Ok-clause-dialled g c = c.accept_all.ensures.dialled ∙ c.start_sinks.ensures.dialled
+
 pub returns-in-Ok-clause-cause : goal.returns-in-Ok-clause-cause
 returns-in-Ok-clause-cause g c =
     let calm : IsCalm (g.H.Host.now c.args.host.now) (g.H.Host.now c.start_sinks.new.host) = search rules in
@@ -59,3 +62,6 @@ returns-in-Err-clause-lent g c = c.start_sinks.ensures.starts.lent
 
 pub returns-in-Err-clause-cause : goal.returns-in-Err-clause-cause
 returns-in-Err-clause-cause g c = c.in-Err.ensures.cause
+
+pub returns-in-Err-clause-dialled : goal.returns-in-Err-clause-dialled
+returns-in-Err-clause-dialled g c = c.start_sinks.ensures.dialled

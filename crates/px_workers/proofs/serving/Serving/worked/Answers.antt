@@ -36,3 +36,6 @@ returns-clause-lent g c = c.work-stop.ensures.lent
 
 pub returns-clause-cause : goal.returns-clause-cause
 returns-clause-cause g c = c.work-stop.ensures.cause
+
+pub returns-clause-dialled : goal.returns-clause-dialled
+returns-clause-dialled g c = c.work-stop.ensures.dialled
