@@ -15,6 +15,7 @@ use crate::seat::{CoreSeat, Seats};
 use crate::step::{CoreStep, StepFault};
 use px_annals::{CoreEntry, Recorder};
 use px_core::Effects;
+use px_types::SinkId;
 use std::alloc::Global;
 use std::marker::Model;
 use std::mem;
@@ -68,6 +69,7 @@ impl<C: Recorder<CoreEntry>, L: Seats> Live<C, L> {
     ) -> Result<Option<Effects>, StepFault>
         requires { IsAsked step }
         ensures counts { Counts result seat.old seat.new }
+        ensures parts { seat.new.parts ≡ seat.old.parts }
         ensures back { HandsBack step result }
         ensures nothing { IsNothing step result }
     {
@@ -76,6 +78,24 @@ impl<C: Recorder<CoreEntry>, L: Seats> Live<C, L> {
             self.book.add(&mut seat.share, 1);
         }
         Ok(answer)
+    }
+
+    // Hands out to each of the first `sinks` sinks the messages queued for it. A sink for which none is queued has no step.
+    fn post_all<R: Wait>(
+        &mut self,
+        rt: &R,
+        alloc: Global,
+        sinks: u8,
+        seat: &mut CoreSeat<L>,
+    ) -> Result<(), StepFault>
+        ensures { seat.new.parts ≡ seat.old.parts }
+    {
+        for sink in 0..sinks {
+            if self.parts.core.outgoing(SinkId(sink)) > 0 {
+                self.step(rt, alloc, CoreStep::Out(SinkId(sink)), seat)?;
+            }
+        }
+        Ok(())
     }
 
     // No seat counts more steps than were done.
@@ -151,6 +171,27 @@ impl<C: Recorder<CoreEntry> + Drop, L: Seats> CoreCell<C, L> {
         let mut slot = self.slot.lock(rt);
         match &mut *slot {
             Slot::Live(live) => live.step(rt, alloc, step, seat),
+            Slot::Taken(whole) => {
+                meet(seat, whole);
+                unreachable!()
+            }
+        }
+    }
+
+    /// Takes the lock once and hands out to each of the first `sinks` sinks the messages queued for it, as the step `Out` does. A sink for
+    /// which none is queued has no step. Where a step can't be made, the messages of its sink and of those after it stay queued.
+    pub fn post_all<R: Wait>(
+        &self,
+        rt: &R,
+        alloc: Global,
+        sinks: u8,
+        seat: &mut CoreSeat<L>,
+    ) -> Result<(), StepFault>
+        ensures { seat.new.parts ≡ seat.old.parts }
+    {
+        let mut slot = self.slot.lock(rt);
+        match &mut *slot {
+            Slot::Live(live) => live.post_all(rt, alloc, sinks, seat),
             Slot::Taken(whole) => {
                 meet(seat, whole);
                 unreachable!()

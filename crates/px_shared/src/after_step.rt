@@ -26,15 +26,15 @@ impl<R: Wait + Copy, C: Recorder<CoreEntry> + Drop, L: Seats, O: Outlet + Drop> 
         ensures seat { self.new.seat.parts ≡ self.old.seat.parts }
     {
         self.sweep_owed(stepped)?;
-        self.deliver()
+        self.deliver(stepped)
     }
 
-    /// Ends the connections that found no memory, posts what waits for the sinks, and sends what waits for the clients.
-    pub(crate) fn deliver(&mut self) -> Result<(), CoreStop>
+    /// Ends the connections that found no memory, posts what waits for the sinks unless `stepped` has, and sends what waits for the clients.
+    pub(crate) fn deliver(&mut self, stepped: Stepped) -> Result<(), CoreStop>
         ensures seat { self.new.seat.parts ≡ self.old.seat.parts }
     {
         self.cut_out_of_memory()?;
-        self.post_all()?;
+        self.post_left(stepped)?;
         self.send();
         Ok(())
     }
@@ -68,12 +68,23 @@ impl<R: Wait + Copy, C: Recorder<CoreEntry> + Drop, L: Seats, O: Outlet + Drop> 
         conn
     }
 
-    // Ends a client's connection, and makes the sweep that this owes.
+    // Ends a client's connection, makes the sweep that this owes, and posts what then waits for the sinks.
     fn end(&mut self, conn: ConnId) -> Result<(), CoreStop>
         ensures seat { self.new.seat.parts ≡ self.old.seat.parts }
     {
         let cut = self.step_until_memory(RetryableStep::Cut(conn))?;
-        self.sweep_owed(cut)
+        self.sweep_owed(cut)?;
+        self.post_left(cut)
+    }
+
+    // Posts to each sink what waits for it, unless `stepped` has.
+    fn post_left(&mut self, stepped: Stepped) -> Result<(), CoreStop>
+        ensures seat { self.new.seat.parts ≡ self.old.seat.parts }
+    {
+        if stepped == Stepped::Posted {
+            return Ok(());
+        }
+        self.post_all()
     }
 
     // Posts to each sink what waits for it.
@@ -103,12 +114,13 @@ impl<R: Wait + Copy, C: Recorder<CoreEntry> + Drop, L: Seats, O: Outlet + Drop> 
         }
         self.shared.waiting.store(false, Ordering::SeqCst);
         let rt = self.rt;
+        let mut next = self.next_pending();
         for _ in rt.forever() {
-            let Some(pending) = self.next_pending() else {
+            let Some(pending) = next else {
                 return;
             };
             let (conn, outlet, partly_sent) = pending.run();
-            self.put_back(conn, outlet, partly_sent);
+            next = self.put_back(conn, outlet, partly_sent);
         }
         unreachable!()
     }
@@ -120,12 +132,18 @@ impl<R: Wait + Copy, C: Recorder<CoreEntry> + Drop, L: Seats, O: Outlet + Drop> 
         self.shared.queues.lock(&self.rt).take_out()
     }
 
-    // Puts back the outlet that a pending send had, with the packet that it has sent in part.
-    fn put_back(&mut self, conn: ConnId, outlet: O, partly_sent: Option<PartlySent>)
+    // Puts back the outlet that a pending send had, with the packet that it has sent in part, and takes the next packet that waits.
+    fn put_back(
+        &mut self,
+        conn: ConnId,
+        outlet: O,
+        partly_sent: Option<PartlySent>,
+    ) -> Option<PendingSend<O>>
         ensures seat { self.new.seat.parts ≡ self.old.seat.parts }
     {
         let mut queues = self.shared.queues.lock(&self.rt);
         queues.put_back(conn, outlet, partly_sent);
         self.shared.note_senders(&queues);
+        queues.take_out()
     }
 }

@@ -9,7 +9,7 @@ ghost use Rattle.px_core_cell.specs.History.{IsCell};
 
 use crate::retryable::RetryableStep;
 use crate::shared::Shared;
-use crate::step::Stepped;
+use crate::step::{Stepped, notices_queued};
 use px_annals::{CoreEntry, Recorder};
 use px_core_cell::{CoreParts, CoreSeat, CoreStep, Seats};
 use px_ends::Outlet;
@@ -187,13 +187,36 @@ impl<R: Wait + Copy, C: Recorder<CoreEntry> + Drop, L: Seats, O: Outlet + Drop> 
     pub fn notices(&mut self, sink: SinkId) -> Result<(), CoreStop>
         ensures seat { self.new.seat.parts ≡ self.old.seat.parts }
     {
-        if !self.notice(sink)? {
-            return Ok(());
+        match self.notices_at_once(sink)? {
+            Stepped::Nothing => Ok(()),
+            Stepped::Done => self.notices_left(sink),
+            stepped => self.deliver(stepped),
         }
+    }
+
+    // Gives the core the notices of a sink's outbox, all of them under one lock where there is no tape, and else the first: `Nothing` where there
+    // was none, `Done` where some may be left.
+    fn notices_at_once(&mut self, sink: SinkId) -> Result<Stepped, CoreStop>
+        ensures seat { self.new.seat.parts ≡ self.old.seat.parts }
+    {
+        if !self.shared.taped {
+            return Ok(notices_queued(&self.rt, self.alloc, &self.shared, sink, &mut self.seat));
+        }
+        if self.notice(sink)? {
+            Ok(Stepped::Done)
+        } else {
+            Ok(Stepped::Nothing)
+        }
+    }
+
+    // Gives the core the notices left in a sink's outbox, one by one, and then does what follows the last.
+    fn notices_left(&mut self, sink: SinkId) -> Result<(), CoreStop>
+        ensures seat { self.new.seat.parts ≡ self.old.seat.parts }
+    {
         let rt = self.rt;
         for _ in rt.forever() {
             if !self.notice(sink)? {
-                return self.deliver();
+                return self.deliver(Stepped::Swept);
             }
         }
         unreachable!()

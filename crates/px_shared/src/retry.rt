@@ -49,7 +49,7 @@ impl<R: Wait + Copy, C: Recorder<CoreEntry> + Drop, L: Seats, O: Outlet + Drop> 
     {
         match stepped {
             Stepped::Done => self.sweep(),
-            Stepped::Swept | Stepped::Nothing => Ok(()),
+            Stepped::Swept | Stepped::Posted | Stepped::Nothing => Ok(()),
         }
     }
 

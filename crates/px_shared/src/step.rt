@@ -11,7 +11,7 @@ use px_annals::{CoreEntry, Recorder};
 use px_core_cell::{CoreSeat, CoreStep, Seats, StepFault};
 use px_ends::Outlet;
 use px_tape::{Events, Tape};
-use px_types::Mem;
+use px_types::{Mem, SinkId};
 use std::alloc::Global;
 use std::sync::Wait;
 use std::sync::atomic::Ordering;
@@ -41,6 +41,8 @@ pub(crate) enum Stepped {
     Done,
     /// It was done, and the sweep that it owed after it.
     Swept,
+    /// It was done with its sweep, and what waited for the sinks was posted.
+    Posted,
     /// There was nothing to do.
     Nothing,
 }
@@ -112,8 +114,27 @@ fn step_swept<W: Wait, C: Recorder<CoreEntry> + Drop, L: Seats, O: Outlet + Drop
     }
 }
 
-/// Makes a step and the sweep that it owes, whose effects go into the output queues. These are locked meanwhile, so that they have the packets
-/// in the order of the steps.
+// Posts what waits for the sinks after a step that was swept. Where that can't be, it waits still.
+fn post_after<W: Wait, C: Recorder<CoreEntry> + Drop, L: Seats, O: Outlet + Drop>(
+    rt: &W,
+    alloc: Global,
+    shared: &Shared<C, L, O>,
+    stepped: Stepped,
+    seat: &mut CoreSeat<L>,
+) -> Stepped
+    ensures seat { seat.new.parts ≡ seat.old.parts }
+{
+    if stepped != Stepped::Swept {
+        return stepped;
+    }
+    match shared.core.post_all(rt, alloc, shared.sinks, seat) {
+        Ok(()) => Stepped::Posted,
+        Err(_) => Stepped::Swept,
+    }
+}
+
+/// Makes a step and the sweep that it owes, whose effects go into the output queues, and posts what waits for the sinks. The queues are locked
+/// meanwhile, so that they have the packets in the order of the steps.
 pub(crate) fn step_queued<W: Wait, C: Recorder<CoreEntry> + Drop, L: Seats, O: Outlet + Drop>(
     rt: &W,
     alloc: Global,
@@ -126,7 +147,47 @@ pub(crate) fn step_queued<W: Wait, C: Recorder<CoreEntry> + Drop, L: Seats, O: O
     ensures back { HandsBack step result }
 {
     let mut queues = shared.queues.lock(rt);
-    step_swept(rt, alloc, shared, &mut queues, step, seat)
+    let stepped = step_swept(rt, alloc, shared, &mut queues, step, seat)?;
+    Ok(post_after(rt, alloc, shared, stepped, seat))
+}
+
+// Makes the steps of the notices that wait in a sink's outbox, with the sweep that each owes: `Nothing` where there were none, `Swept` where
+// all were done, and `Done` where some may be left.
+fn notices_swept<W: Wait, C: Recorder<CoreEntry> + Drop, L: Seats, O: Outlet + Drop>(
+    rt: &W,
+    alloc: Global,
+    shared: &Shared<C, L, O>,
+    queues: &mut OutQueues<O>,
+    sink: SinkId,
+    seat: &mut CoreSeat<L>,
+) -> Stepped
+    ensures seat { seat.new.parts ≡ seat.old.parts }
+{
+    let mut done = Stepped::Nothing;
+    for _ in rt.forever() {
+        match step_swept(rt, alloc, shared, queues, CoreStep::Notice(sink), seat) {
+            Ok(Stepped::Nothing) => return done,
+            Ok(Stepped::Swept) => done = Stepped::Swept,
+            Ok(_) | Err(_) => return Stepped::Done,
+        }
+    }
+    unreachable!()
+}
+
+/// Makes the steps of the notices that wait in a sink's outbox, with the sweep that each owes, and then posts what waits for the sinks; the
+/// output queues are locked once for all of it. `Nothing` where there were none, `Done` where some may be left.
+pub(crate) fn notices_queued<W: Wait, C: Recorder<CoreEntry> + Drop, L: Seats, O: Outlet + Drop>(
+    rt: &W,
+    alloc: Global,
+    shared: &Shared<C, L, O>,
+    sink: SinkId,
+    seat: &mut CoreSeat<L>,
+) -> Stepped
+    ensures seat { seat.new.parts ≡ seat.old.parts }
+{
+    let mut queues = shared.queues.lock(rt);
+    let done = notices_swept(rt, alloc, shared, &mut queues, sink, seat);
+    post_after(rt, alloc, shared, done, seat)
 }
 
 // Whether a sweep is owed after a step.
