@@ -38,7 +38,7 @@ use Rattle.px_core.specs.Notice.{owner_of, left_of, arrival_between, arrival_at,
 use Rattle.px_core.specs.Step.{notice, answered, stepped}
 use Rattle.px_core.proofs.ListLaws.{found_all}
 use Rattle.px_core.proofs.HandingLaws.{sink_there}
-use Rattle.px_core.proofs.ArrivalLaws.{only_there}
+use Rattle.px_core.proofs.FoundInputs.{only_there}
 use Rattle.px_core.proofs.MisfitLaws.{here_by_index, here_on}
 
 -- ---- lists

@@ -1,11 +1,11 @@
 -- An input is on the sink that it moves to: the outcome keeps what the state keeps.
-use Rattle.std.proofs.Common.{◌≡◌, ◌⊎◌, inl, inr, ℕ, zero, suc, ◌<◌, ◌≤◌, List, [], ◌∷◌, ◌++◌, map, length, Option, Some, None, Bool, true, false, refl, ap, sym, subst, ◌∙◌, arith, cond}
+use Rattle.std.proofs.Common.{◌≡◌, ◌⊎◌, inl, inr, ℕ, zero, suc, ◌<◌, ◌≤◌, List, [], ◌∷◌, ◌++◌, length, Option, Some, None, Bool, true, false, refl, ap, sym, subst, ◌∙◌, arith, cond}
 use Rattle.std.specs.Prelude.{◌&&◌, filter, nat_eq, not, replicate, slice_get, All, MatchOption, IfSome}
 use Rattle.std.specs.List.{AllByRecursion, find}
 use Rattle.std.specs.Option.{option_map}
-use Rattle.std.proofs.lemmas.Bool.{cond-true, cond-false, eqb-true, eq-eqb, ne_eqb, false≢true, and_left, and_parts}
+use Rattle.std.proofs.lemmas.Bool.{cond-true, cond-false, eqb-true, eq-eqb, ne_eqb, and_left, and_parts}
 use Rattle.std.proofs.lemmas.List.{append-nil}
-use Rattle.std.proofs.lemmas.Option.{none-some, same_Some}
+use Rattle.std.proofs.lemmas.Option.{same_Some}
 use Rattle.px_types.specs.declared.ids.InputId.{InputId}
 use Rattle.px_types.specs.declared.ids.SinkId.{SinkId}
 use Rattle.px_header.specs.declared.header.SinkSpec.{SinkSpec}
@@ -38,7 +38,7 @@ use Rattle.px_state.specs.Delayed.{is_of, delayed_of, Suits, Waits, IsDelayed}
 use Rattle.px_state.specs.State.{State, has_index, input_of, is_settled, settled_on}
 use Rattle.px_state.specs.Change.{Change, change_first, drop_first, arrived_at, posted_to, arrives, arrives_of, arriving, releasing, releasing_of, changed, committed}
 use Rattle.px_core.specs.Grouped.{channels_there, IsGroupOf, paid}
-use Rattle.px_core.specs.Consistency.{IsFedAt, GoesTo, GoesThere, IsInput, IsConsistent, IsRising, AllAbove}
+use Rattle.px_core.specs.Consistency.{IsFedAt, GoesTo, GoesThere, IsInput, IsConsistent, IsRising}
 use Rattle.px_core.specs.Lawful.{IsReleased, AreReleased, AreLawfulOwing}
 use Rattle.px_core.specs.Notice.{is_on, owner_of, arrival_between, arrival_at, arrived_with}
 use Rattle.px_core.specs.Parcels.{Brought, moved_stream, carried_by}
@@ -47,6 +47,7 @@ use Rattle.px_core.proofs.ListLaws.{all_weaken, all_drop, found_all, found_test,
 use Rattle.px_core.proofs.EntryLaws.{rising_change}
 use Rattle.px_core.proofs.MoveLaws.{arriving_keeps, brought_held}
 use Rattle.px_core.proofs.GroupLaws.{Grouped, arrived_grouped}
+use Rattle.px_core.proofs.FoundInputs.{found_changed, only_there}
 use Rattle.px_core.proofs.VerbLaws.{Follows, none_goes}
 use Rattle.px_core.proofs.StillLaws.{Still, suits_as, others_still}
 use Rattle.px_core.proofs.AnswerLaws.{IsLawful, rising_filter, regroups}
@@ -81,45 +82,6 @@ abbrev pub IsSound : {P : Type 0} → (P → SampleSpec) → State P → CoreOut
 IsSound spec_of state outcome given = IsLawful state outcome ⊎ IsArrival spec_of state outcome given
 
 -- ---- inputs by their index, where one comes to another sink
-
--- where it is found it is found changed
-found_changed : (q : Input → Bool) (f : Input → Input) → ((y : Input) → q (f y) ≡ q y) → (xs : List Input) (x : Input) → find q xs ≡ Some x → find q (change_first q f xs) ≡ Some (f x)
-found_changed q f same [] x found = absurd (none-some x found)
-found_changed q f same (y ∷ xs) x found = step (found_changed q f same xs x) (q y) refl found
-  where
-    step : (find q xs ≡ Some x → find q (change_first q f xs) ≡ Some (f x)) → (b : Bool) → q y ≡ b → cond b (Some y) (find q xs) ≡ Some x → find q (cond b (f y ∷ xs) (y ∷ change_first q f xs)) ≡ Some (f x)
-    step more true e g = cond-true (q (f y)) (Some (f y)) (find q xs) (same y ∙ e) ∙ ap (λ z. Some (f z)) (same_Some y x g)
-    step more false e g = cond-false (q y) (Some y) (find q (change_first q f xs)) e ∙ more g
-
-none_above : (i : ℕ) (xs : List Input) (sink : SinkId) → AllAbove i xs → channels_there xs sink (record { 0 = i }) ≡ []
-none_above i [] sink a = refl
-none_above i (x ∷ xs) sink a = step (none_above i xs sink a.1) (nat_eq x.index.0 i) (nat_eq x.sink.0 sink.0) (ne_eqb x.index.0 i (λ same. absurd (omega (arith, a.0, same))))
-  where
-    step : channels_there xs sink (record { 0 = i }) ≡ [] → (b c : Bool) → b ≡ false → map (λ z. (Input.spec z).channels) (cond (b && c) (x ∷ filter (is_on sink (record { 0 = i })) xs) (filter (is_on sink (record { 0 = i })) xs)) ≡ []
-    step rest true c e = absurd (false≢true (sym e))
-    step rest false c e = rest
-
--- what is there of one that is found
-pub only_there : (xs : List Input) → IsRising xs → (x : Input) → input_of xs x.index ≡ Some x → (sink : SinkId) → channels_there xs sink x.index ≡ cond (nat_eq x.sink.0 sink.0) (x.spec.channels ∷ []) []
-only_there [] r x here sink = absurd (none-some x here)
-only_there (y ∷ xs) r x here sink = step (only_there xs r.1 x) (nat_eq y.index.0 x.index.0) refl here
-  where
-    own : y ≡ x → (b c : Bool) → b ≡ true → nat_eq y.sink.0 sink.0 ≡ c → channels_there xs sink x.index ≡ []
-        → map (λ z. (Input.spec z).channels) (cond (b && c) (y ∷ filter (is_on sink x.index) xs) (filter (is_on sink x.index) xs)) ≡ cond c (y.spec.channels ∷ []) []
-    own same true true e f none = ap (λ more. y.spec.channels ∷ more) none
-    own same true false e f none = none
-    own same false c e f none = absurd (false≢true e)
-
-    step : (input_of xs x.index ≡ Some x → (sink : SinkId) → channels_there xs sink x.index ≡ cond (nat_eq x.sink.0 sink.0) (x.spec.channels ∷ []) [])
-        → (b : Bool) → nat_eq y.index.0 x.index.0 ≡ b → cond b (Some y) (input_of xs x.index) ≡ Some x
-        → channels_there (y ∷ xs) sink x.index ≡ cond (nat_eq x.sink.0 sink.0) (x.spec.channels ∷ []) []
-    step more true e found =
-        let same : y ≡ x = same_Some y x found in
-        own same (nat_eq y.index.0 x.index.0) (nat_eq y.sink.0 sink.0) e refl (none_above x.index.0 xs sink (subst (λ n. AllAbove n xs) (eqb-true y.index.0 x.index.0 e) r.0))
-        ∙ ap (λ (z : Input). cond (nat_eq z.sink.0 sink.0) (z.spec.channels ∷ []) []) same
-    step more false e found =
-        ap (λ b. map (λ z. (Input.spec z).channels) (cond b (y ∷ filter (is_on sink x.index) xs) (filter (is_on sink x.index) xs))) (and_left (nat_eq y.index.0 x.index.0) (nat_eq y.sink.0 sink.0) e)
-        ∙ more found sink
 
 module _ (to : SinkId) (xs : List Input) (rising : IsRising xs) (x : Input) (here : input_of xs x.index ≡ Some x) (apart : to.0 ≡ x.sink.0 → ⊥) where
   abbrev brought : List Input

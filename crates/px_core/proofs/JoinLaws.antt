@@ -24,7 +24,7 @@ use Rattle.px_core.specs.Consistency.{IsFedAt, GoesTo, GoesThere, IsInput, IsCon
 use Rattle.px_core.proofs.ListLaws.{found_all}
 use Rattle.px_core.proofs.HandingLaws.{sink_there}
 use Rattle.px_core.proofs.CreateLaws.{sink_rules}
-use Rattle.px_core.proofs.ArrivalLaws.{only_there}
+use Rattle.px_core.proofs.FoundInputs.{only_there}
 
 -- the first member of an input, where there is one alone
 first_in : (i : InputId) (n : ℕ) (ms : List Member) (m : Member) → find (is_input i) ms ≡ Some m → channels_in ms i ≡ n ∷ [] → channels_of m.feed ≡ n

@@ -17,6 +17,7 @@ pub mod SweepLaws
 pub mod CreateLaws
 pub mod VolumeLaws
 pub mod RoadLaws
+pub mod FoundInputs
 pub mod ArrivalLaws
 pub mod MisfitLaws
 pub mod WayLaws
