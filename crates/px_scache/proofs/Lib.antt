@@ -6,3 +6,4 @@ pub mod Lookup
 pub mod Meant
 pub mod Sent
 pub mod Named
+pub mod Again

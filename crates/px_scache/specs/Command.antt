@@ -2,11 +2,12 @@
 -- what a packet of one means.
 use Rattle.std.specs.Prelude.{ℕ, nat_eq, List, [], ◌∷◌, Option, None, Some, Result, Ok, Err}
 use Rattle.std.specs.Map.{lookup}
-use Rattle.px_tag.specs.Place.{Place}
+use Rattle.px_tag.specs.declared.fault.TagFault.{TagFault}
+use Rattle.px_tag.specs.Place.{Place, start_of}
 use Rattle.px_cmd.specs.declared.fault.CmdFault.{CmdFault}
-use Rattle.px_cmd.specs.declared.fault.CmdFault.TheVariants.{Unsupported}
+use Rattle.px_cmd.specs.declared.fault.CmdFault.TheVariants.{Protocol, Unsupported}
 use Rattle.px_cmd.specs.Field.{Kind, u32, string, sample_spec, positions, properties, Field, Number, String, SampleSpec, Positions, Properties}
-use Rattle.px_cmd.specs.Packet.{fields_or}
+use Rattle.px_cmd.specs.Packet.{fields_or, head_at}
 use Rattle.px_scache.specs.declared.fields.UploadFields.{UploadFields}
 use Rattle.px_scache.specs.declared.fields.PlayFields.{PlayFields}
 use Rattle.px_scache.specs.declared.command.Request.{Request}
@@ -100,3 +101,27 @@ request_by number (Err fault) = Err fault
 -- the command with this number whose fields take all that is left of the packet; else the first fault in them
 unfoldable pub request_at : ℕ → Place → Result Request CmdFault
 request_at number place = request_by number (fields_or (kinds_of number) number place)
+
+-- ---- a whole packet
+
+abbrev pub number_of : Request → ℕ
+number_of (Upload a) = CREATE_UPLOAD
+number_of (Delete stream) = DELETE_UPLOAD
+number_of (Finish stream) = FINISH_UPLOAD
+number_of (Play a) = PLAY
+number_of (Remove name) = REMOVE
+
+abbrev pub fields_of : Request → List Field
+fields_of (Upload a) = upload_fields a
+fields_of (Delete stream) = Number stream ∷ []
+fields_of (Finish stream) = Number stream ∷ []
+fields_of (Play a) = play_fields a
+fields_of (Remove name) = String name ∷ []
+
+abbrev pub request_after : Result ((ℕ × ℕ) × Place) TagFault → Result Request CmdFault
+request_after (Err fault) = Err (Protocol fault)
+request_after (Ok head) = request_at head.0.0 head.1
+
+-- the command that a packet means, whatever its tag
+unfoldable pub meant : List ℕ → Result Request CmdFault
+meant packet = request_after (head_at (start_of packet))

@@ -1,10 +1,10 @@
 //! The samples.
 
-ghost use Rattle.std.specs.Prelude.{◌≡◌, ◌+◌, ◌<◌, ◌≤◌, ◌++◌, ◌∷◌, [], true, not, length, filter, find, vec_capacity, IfOk, OnOk, OnErr, IfSome};
+ghost use Rattle.std.specs.Prelude.{◌≡◌, ◌+◌, ◌<◌, ◌≤◌, [], true, length, find, vec_capacity, IfOk, OnOk, OnErr, IfSome};
 ghost use Rattle.std.specs.List.{AllByRecursion, list_any};
 ghost use Rattle.std.specs.Option.{option_map};
 ghost use Rattle.px_scache.specs.Answers.{IsDone, IsCarried};
-ghost use Rattle.px_scache.specs.Cache.{is_called, bytes_of_other, others, stored, removed, bytes_in, has_room, sample_named, has_sample, without, finish, remove, IsSample, IsCache};
+ghost use Rattle.px_scache.specs.Cache.{is_called, bytes_of_other, others, stored, bytes_in, has_room, sample_named, has_sample, without, finish, remove, IsSample, IsCache};
 
 use crate::sample::Sample;
 use px_cmd::Text;

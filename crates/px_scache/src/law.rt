@@ -1,7 +1,11 @@
-//! The laws of the cache, and of the packets of a play.
+//! The laws of the commands, of the cache, and of the packets of a play.
 
 ghost use Rattle.std.specs.Prelude.{◌≡◌, ◌<◌, ◌^◌, ℕ, List, [], ◌∷◌, ◌++◌, false, bytes_eq, None, Some, Ok};
+ghost use Rattle.std.specs.List.{AllByRecursion};
+ghost use Rattle.px_cmd.specs.Law.{IsField, packet_of};
 ghost use Rattle.px_cmd.specs.Meant.{meant};
+ghost use Rattle.px_scache.specs.declared.command.Request.{Request as Read};
+ghost use Rattle.px_scache.specs.Command.{number_of, fields_of, meant as meant_here};
 ghost use Rattle.px_cmd.specs.declared.command.Command.TheVariants.{Create, Drain, Delete};
 ghost use Rattle.px_scache.specs.declared.play.Play.{Play as Played};
 ghost use Rattle.px_scache.specs.declared.sample.Sample.{Sample as Entry};
@@ -17,6 +21,12 @@ pub fn cache_is_a_map()
     ensures removed { (name : List ℕ) (cache : Samples) → sample_in (removed name cache) name ≡ None }
     ensures removed_beside { (name other : List ℕ) → bytes_eq name other ≡ false → (cache : Samples) → sample_in (removed name cache) other ≡ sample_in cache other }
     ensures one_more { (changes : List Change) (change : Change) → cache_of (changes ++ change ∷ []) ≡ changed (cache_of changes) change }
+{}
+
+/// A packet that is the number of one of the five commands, a tag and the command's fields, one after the other, means that command. The
+/// function does nothing: its contract is the law.
+pub fn spelled_requests()
+    ensures { (tag : ℕ) (r : Read) → tag < 2 ^ 32 → AllByRecursion IsField (fields_of r) → meant_here (packet_of (number_of r) tag (fields_of r)) ≡ Ok r }
 {}
 
 /// Each packet of a play means its command at version 18. The function does nothing: its contract is the law.

@@ -20,7 +20,7 @@ pub use answer::Answer;
 pub use cache::Cache;
 pub use command::{Request, read_request};
 pub use fields::{PlayFields, UploadFields};
-pub use law::{cache_is_a_map, plays_mean_commands};
+pub use law::{cache_is_a_map, plays_mean_commands, spelled_requests};
 pub use play::{Play, Plays, delete, drain};
 pub use reply::played;
 pub use sample::Sample;

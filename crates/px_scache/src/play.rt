@@ -1,13 +1,12 @@
 //! The plays of samples.
 
-ghost use Rattle.std.specs.Prelude.{◌≡◌, ◌≢◌, ◌++◌, ◌<◌, ◌≤◌, [], true, length, flat_map, IsTrue, IfOk, OnOk, MatchResult};
+ghost use Rattle.std.specs.Prelude.{◌≡◌, ◌≢◌, ◌++◌, ◌<◌, ◌≤◌, length, flat_map, IfOk, OnOk};
 ghost use Rattle.px_types.specs.declared.limits.TheConstants.{CONTROL_CHANNEL};
 ghost use Rattle.px_tag.specs.Item.{is_text};
 ghost use Rattle.px_cmd.specs.Field.{spelling};
 ghost use Rattle.px_frame.specs.declared.frame.Body.TheVariants.{Control};
 ghost use Rattle.px_frame.specs.Spelling.{spelling_of};
 ghost use Rattle.px_outcome.specs.Handled.{HandledAs};
-ghost use Rattle.px_scache.specs.Cache.{IsSample};
 ghost use Rattle.px_scache.specs.Play.{is_volume, volume_of, is_name, is_clear, begun, shape, buffering, manner, no_properties, later, create_packet, drain_packet, delete_packet, create_frame, drain_frame, delete_frame, data_frame, IsPlay};
 
 use crate::cache::Cache;

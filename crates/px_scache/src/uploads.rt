@@ -4,8 +4,6 @@ ghost use Rattle.std.specs.Prelude.{◌≡◌, ◌+◌, ◌<◌, ◌≤◌, ◌+
 ghost use Rattle.std.specs.List.{AllByRecursion, list_any, position};
 ghost use Rattle.std.specs.Option.{option_map};
 ghost use Rattle.px_outcome.specs.Handled.{HandledAs};
-ghost use Rattle.px_sample.specs.declared.spec.Spec.{Spec as SampleSpec};
-ghost use Rattle.px_chmap.specs.ChannelMap.{IsChannelMap};
 ghost use Rattle.px_scache.specs.Answers.{IsDone, IsCarried};
 ghost use Rattle.px_scache.specs.Cache.{IsSample};
 ghost use Rattle.px_scache.specs.Uploads.{no_uploads, is_by, uploads_of, is_upload, has_upload, counts_for, next_of, other_counters, with_counter, with_upload, without_upload, without_conn, change_first, added, written, has_room, made, create, delete, finished, sample_of, IsUpload};
