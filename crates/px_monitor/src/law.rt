@@ -22,7 +22,7 @@ pub fn monitors_stand_before_a_world()
 {}
 
 /// The payloads of the frames that a record stream is sent, joined, are the bytes that its sink plays from its creation to its
-/// end. The record stream is named by its source output, whose number no other one has. Source: own.
+/// end. The record stream is named by its source output. Source: own.
 pub fn record_streams_get_what_is_played()
     ensures { (header : Header) (events : List Event) (output : ℕ) → IsHeader header
         → payloads (sent_by (new_monitor header) events output) ≡ due_by (new_monitor header) events output }

@@ -38,7 +38,7 @@ filled first bytes begun e =
           ∙ ap (λ n. take n (begun ++ bytes)) sum
     ]
 
--- behind the bytes that were there before
+-- after the bytes that were there before
 pub resumed : (begun bytes : List ℕ) (size : ℕ) → length begun ≤ size → drop (length bytes - (length begun + length bytes - size)) bytes ≡ drop size (begun ++ bytes)
 resumed begun bytes size past =
     let sum : length begun + (size - length begun) ≡ size = omega (arith, past) in
