@@ -12,6 +12,7 @@ from words import Wrong
 WHOLE = "whole"
 REPLAY, MONITOR = ["replay"], ["replay", "--monitor"]
 REFUSAL = re.compile(r"pulse_rw: refused at ([0-9]+): (.*\n)")
+KILL = number(COMMANDS["kill-client"][0])  # how a KILL_CLIENT begins
 RECORDS = tuple(number(COMMANDS[word][0]) for word in RECORDERS)  # how packets of these commands begin
 
 
@@ -93,7 +94,7 @@ def all_cases(rows, cuts, convert, monitor):
     """(label, row, session) for each run, those of ordinary rows by `replay --monitor` last."""
     yield from cases_of(rows, cuts, convert)
     if monitor:
-        ordinary = [monitored(row) for row in rows if row.words == REPLAY and not has_recorders(row.session)]
+        ordinary = [monitored(row) for row in rows if row.words == REPLAY and is_ordinary(row)]
         yield from ((f"{label}, by --monitor", row, session) for label, row, session in cases_of(ordinary, cuts, False))
 
 
@@ -102,6 +103,27 @@ def monitored(row):
     row = copy.copy(row)
     row.words = MONITOR
     return row
+
+
+def is_ordinary(row):
+    """Whether the other word makes no difference: no record stream is made, and no client is ended before the last frame of an event, after
+    which by that word it is there no longer. A session that is played whole gives the same for any cut, so there the latter may be."""
+    return not has_recorders(row.session) and (row.status == 0 or not kills_within(row.session))
+
+
+def kills_within(session):
+    """Whether an event completes a KILL_CLIENT and frames after it."""
+    read, held = parts_of(session)[0], {}
+    for event in read.events if read else []:
+        if event[0] == 1:
+            held[event[1]] = bytearray()
+        elif event[0] == 2:
+            data = held.setdefault(event[1], bytearray())
+            data += event[2]
+            frames = list(whole_frames(data))
+            if any(descriptor.channel == CONTROL and payload.startswith(KILL) for descriptor, payload in frames[:-1]):
+                return True
+    return False
 
 
 def has_recorders(session):
