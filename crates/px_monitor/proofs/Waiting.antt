@@ -1,5 +1,5 @@
 -- Between two events no segment waits, so that those of an event are what its bytes newly have.
-use Rattle.std.proofs.Common.{◌≡◌, ℕ, zero, suc, Bool, true, false, cond, not, List, [], ◌∷◌, ◌++◌, map, filter, Option, None, Some, refl, ap, sym, subst, ◌∙◌, ⊎_elim}
+use Rattle.std.proofs.Common.{◌≡◌, ℕ, Bool, true, false, not, List, [], ◌∷◌, ◌++◌, Option, None, Some, refl, ap, sym, subst, ◌∙◌, ⊎_elim}
 use Rattle.std.specs.Prelude.{◌&&◌, nat_eq}
 use Rattle.std.specs.List.{AllByRecursion}
 use Rattle.std.proofs.lemmas.Bool.{cases_Bool, cond-true, cond-false, cond_both, eqb-false}
@@ -9,17 +9,15 @@ use Rattle.px_session.specs.declared.event.Event.{Event}
 use Rattle.px_session.specs.declared.event.Event.TheVariants.{Connect, Bytes, Close, Cut, Turn, Collect, Stop}
 use Rattle.px_state.specs.declared.effect.Effect.{Effect}
 use Rattle.px_state.specs.declared.effect.Effect.TheVariants.{Sent, Closed}
-use Rattle.px_header.specs.declared.header.Header.{Header}
 use Rattle.px_sieve.specs.declared.segment.Segment.{Segment}
-use Rattle.px_sieve.specs.declared.piece.Piece.{Piece}
 use Rattle.px_sieve.specs.Piece.{is_reply}
 use Rattle.px_sieve.specs.Segment.{new_segments}
 use Rattle.px_sieve.specs.Sieve.{Heard, is_of, heard_of, changed, unheard, heard_more, heard_by, first_taken, after_next, is_asked, set_one, set_in, seen_one, seen_all, seen}
 use Rattle.px_sieve.specs.Scene.{shown_by}
-use Rattle.px_monitor.specs.Monitor.{Monitor, new_monitor, waiting_in, piece_for, piece_items, handled_in, handed_out, after_segment, after_segments, hearing, to_hand_out, alone, monitor_after}
+use Rattle.px_monitor.specs.Monitor.{Monitor, waiting_in, piece_for, piece_items, handled_in, handed_out, after_segment, after_segments, hearing, to_hand_out, alone, monitor_after}
 use Rattle.px_monitor.specs.Run.{monitor_by, NothingWaits, received_from, received_in}
 use Rattle.px_monitor.proofs.Handing.{same-conn, same-waiting}
-use Rattle.px_monitor.proofs.Goes.{handled-sieve, later-left, drop-none}
+use Rattle.px_monitor.proofs.Goes.{handled-sieve, later-left}
 use Rattle.px_monitor.proofs.Kept.{kept}
 
 abbrev Idle : Heard → Type 0

@@ -1,5 +1,5 @@
 -- A run of a world with monitors: what becomes of its events, one after the other.
-use Rattle.std.specs.Prelude.{◌≡◌, ℕ, ◌≤◌, Bool, cond, nat_eq, List, [], ◌∷◌, ◌++◌, drop, filter, Option, None, Some}
+use Rattle.std.specs.Prelude.{◌≡◌, ℕ, ◌≤◌, Bool, nat_eq, List, [], ◌∷◌, ◌++◌, drop, filter, Option, None, Some}
 use Rattle.std.specs.List.{concat, flat_map, AllByRecursion}
 use Rattle.px_types.specs.declared.ids.ConnId.{ConnId}
 use Rattle.px_session.specs.declared.event.Event.{Event}
@@ -9,7 +9,7 @@ use Rattle.px_state.specs.declared.effect.Effect.TheVariants.{Sent, Closed}
 use Rattle.px_world.specs.Event.{frames_played}
 use Rattle.px_world.specs.History.{played_on}
 use Rattle.px_sieve.specs.Sieve.{Heard, heard_of}
-use Rattle.px_sieve.specs.Scene.{Item, is_same}
+use Rattle.px_sieve.specs.Scene.{Item}
 use Rattle.px_monitor.specs.declared.recording.Recording.{Recording}
 use Rattle.px_monitor.specs.Fragments.{sent_of}
 use Rattle.px_monitor.specs.Monitor.{Monitor, items, monitor_after, monitor_effects, monitor_refusal}
@@ -40,27 +40,13 @@ effects_shown m (e ∷ events) = monitor_effects m e ++ effects_shown (monitor_a
 abbrev pub NothingWaits : Monitor → Type 0
 NothingWaits m = AllByRecursion (λ (h : Heard). h.waiting ≡ []) m.sieve.heard
 
--- the bytes of a connection that the sieve has heard
+-- the bytes that were heard of a connection since its number was free
 abbrev pub received_from : Option Heard → List ℕ
 received_from None = []
 received_from (Some h) = h.received
 
 abbrev pub received_in : Monitor → ConnId → List ℕ
 received_in m conn = received_from (heard_of m.sieve.heard conn)
-
--- all bytes of a connection: none once its number is free again
-abbrev pub received_after : ConnId → List ℕ → Event → List ℕ
-received_after conn received (Connect one) = received
-received_after conn received (Bytes one bytes) = cond (is_same one conn) (received ++ bytes) received
-received_after conn received (Close one) = cond (is_same one conn) [] received
-received_after conn received (Cut one) = received
-received_after conn received (Turn sink frames n) = received
-received_after conn received (Collect sink n) = received
-received_after conn received (Stop sink) = received
-
-abbrev pub received_by : ConnId → List ℕ → List Event → List ℕ
-received_by conn received [] = received
-received_by conn received (e ∷ events) = received_by conn (received_after conn received e) events
 
 -- ---- the record stream with the source output `output`
 

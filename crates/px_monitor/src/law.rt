@@ -1,6 +1,6 @@
 // The laws of the definitions.
 
-ghost use Rattle.std.specs.Prelude.{◌≡◌, ℕ, [], List};
+ghost use Rattle.std.specs.Prelude.{◌≡◌, ℕ, List};
 ghost use Rattle.px_types.specs.declared.ids.ConnId.{ConnId};
 ghost use Rattle.px_header.specs.declared.header.Header.{Header};
 ghost use Rattle.px_header.specs.HeaderRules.{IsHeader};
@@ -10,7 +10,7 @@ ghost use Rattle.px_world.specs.Output.{world_by, AreAdmitted};
 ghost use Rattle.px_sieve.specs.Segment.{new_segments};
 ghost use Rattle.px_sieve.specs.Scene.{inner, shown_by};
 ghost use Rattle.px_monitor.specs.Monitor.{Monitor, new_monitor, hearing, to_hand_out};
-ghost use Rattle.px_monitor.specs.Run.{monitor_by, AreMonitored, items_by, effects_shown, due_by, sent_by, payloads, NothingWaits, received_in, received_by};
+ghost use Rattle.px_monitor.specs.Run.{monitor_by, AreMonitored, items_by, effects_shown, due_by, sent_by, payloads, NothingWaits, received_in};
 
 /// In a run of events that are admitted, the world admits each event that it gets, it is the world after these events, and the
 /// effects that are shown are theirs, with the replies to the commands on record streams in their places. Source: own.
