@@ -27,12 +27,12 @@ goes-first conn parts start stands = record { now = start; stands = stands; show
 
 -- ---- one more piece
 
-handled-sieve : (m : Monitor) (conn : ConnId) (piece : Piece) → (handled_in m conn piece).sieve ≡ m.sieve
+pub handled-sieve : (m : Monitor) (conn : ConnId) (piece : Piece) → (handled_in m conn piece).sieve ≡ m.sieve
 handled-sieve m conn (Pass bytes) = refl
 handled-sieve m conn (Write frame) = refl
 handled-sieve m conn (Own frame) = refl
 
-later-left : (m : Monitor) (conn : ConnId) (segment : Segment) (later : List Segment) → to_hand_out m conn ≡ segment ∷ later → to_hand_out (after_segment m conn segment) conn ≡ later
+pub later-left : (m : Monitor) (conn : ConnId) (segment : Segment) (later : List Segment) → to_hand_out m conn ≡ segment ∷ later → to_hand_out (after_segment m conn segment) conn ≡ later
 later-left m conn segment later waits =
     let piece = piece_for m conn segment in
     let effects = shown_by (handled_in (handed_out m conn) conn piece).world (piece_items (handed_out m conn) conn piece) in
@@ -75,10 +75,10 @@ module _ (conn : ConnId) (effects longer more : List Effect) (piece : Piece) (pa
 
 -- ---- none is left
 
-drop-none : (l : List Segment) → l ≡ [] → drop 1 l ≡ l
+pub drop-none : (l : List Segment) → l ≡ [] → drop 1 l ≡ l
 drop-none l e = ap (drop 1) e ∙ sym e
 
-taken-none : (conn : ConnId) (heard : List Heard) → waiting_in (heard_of heard conn) ≡ [] → changed first_taken conn heard ≡ heard
+pub taken-none : (conn : ConnId) (heard : List Heard) → waiting_in (heard_of heard conn) ≡ [] → changed first_taken conn heard ≡ heard
 taken-none conn [] none = refl
 taken-none conn (h ∷ heard) none =
     ⊎_elim

@@ -58,10 +58,10 @@ taken-in conn (h ∷ heard) =
 
 -- ---- and effects that are seen leave what waits
 
-same-conn : (conn one : ConnId) (on : Bool) (h : Heard) → is_of conn (set_one one on h) ≡ is_of conn h
+pub same-conn : (conn one : ConnId) (on : Bool) (h : Heard) → is_of conn (set_one one on h) ≡ is_of conn h
 same-conn conn one on h = cond_both (is_of one h) (record h { let_in = on }) h (λ (x : Heard). is_of conn x ≡ is_of conn h) (λ e. refl) (λ e. refl)
 
-same-waiting : (one : ConnId) (on : Bool) (h : Heard) → (set_one one on h).waiting ≡ h.waiting
+pub same-waiting : (one : ConnId) (on : Bool) (h : Heard) → (set_one one on h).waiting ≡ h.waiting
 same-waiting one on h = cond_both (is_of one h) (record h { let_in = on }) h (λ (x : Heard). x.waiting ≡ h.waiting) (λ e. refl) (λ e. refl)
 
 set-waits : (conn one : ConnId) (on : Bool) (heard : List Heard) → waiting_in (heard_of (set_in one on heard) conn) ≡ waiting_in (heard_of heard conn)

@@ -8,3 +8,4 @@ pub mod Partly
 pub mod Goes
 pub mod Events
 pub mod Sized
+pub mod Waiting

@@ -1,12 +1,14 @@
 -- A run of a world with monitors: what becomes of its events, one after the other.
-use Rattle.std.specs.Prelude.{◌≡◌, ℕ, ◌≤◌, Bool, nat_eq, List, [], ◌∷◌, ◌++◌, drop, filter, None}
+use Rattle.std.specs.Prelude.{◌≡◌, ℕ, ◌≤◌, Bool, nat_eq, List, [], ◌∷◌, ◌++◌, drop, filter, Option, None, Some}
 use Rattle.std.specs.List.{concat, flat_map, AllByRecursion}
+use Rattle.px_types.specs.declared.ids.ConnId.{ConnId}
 use Rattle.px_session.specs.declared.event.Event.{Event}
 use Rattle.px_session.specs.declared.event.Event.TheVariants.{Connect, Bytes, Close, Cut, Turn, Collect, Stop}
 use Rattle.px_state.specs.declared.effect.Effect.{Effect}
 use Rattle.px_state.specs.declared.effect.Effect.TheVariants.{Sent, Closed}
 use Rattle.px_world.specs.Event.{frames_played}
 use Rattle.px_world.specs.History.{played_on}
+use Rattle.px_sieve.specs.Sieve.{Heard, heard_of}
 use Rattle.px_sieve.specs.Scene.{Item}
 use Rattle.px_monitor.specs.declared.recording.Recording.{Recording}
 use Rattle.px_monitor.specs.Fragments.{sent_of}
@@ -31,6 +33,20 @@ items_by m (e ∷ events) = items m e ++ items_by (monitor_after m e) events
 abbrev pub effects_shown : Monitor → List Event → List Effect
 effects_shown m [] = []
 effects_shown m (e ∷ events) = monitor_effects m e ++ effects_shown (monitor_after m e) events
+
+-- ---- between two events
+
+-- no segment waits in the sieve
+abbrev pub NothingWaits : Monitor → Type 0
+NothingWaits m = AllByRecursion (λ (h : Heard). h.waiting ≡ []) m.sieve.heard
+
+-- the bytes that were heard of a connection since its number was free
+abbrev pub received_from : Option Heard → List ℕ
+received_from None = []
+received_from (Some h) = h.received
+
+abbrev pub received_in : Monitor → ConnId → List ℕ
+received_in m conn = received_from (heard_of m.sieve.heard conn)
 
 -- ---- the record stream with the source output `output`
 

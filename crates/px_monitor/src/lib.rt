@@ -20,7 +20,9 @@ pub use answer::Answer;
 pub use command::{Request, read_request};
 pub use fields::RecordFields;
 pub use fragments::{fragments_join, push_data};
-pub use law::{monitors_stand_before_a_world, record_streams_get_what_is_played};
+pub use law::{
+    monitors_stand_before_a_world, pieces_are_of_new_bytes, record_streams_get_what_is_played,
+};
 pub use monitor::{MonitorOutcome, MonitorWorld};
 pub use recorded::Recorded;
 pub use recording::Recording;

@@ -20,12 +20,11 @@ use crate::checks::{is_lawful, is_supported, named};
 use crate::command::{Request, read_request};
 use crate::fields::RecordFields;
 use crate::fragments::sent;
-use crate::recording::{Count, Recording};
+use crate::recording::{Count, Recording, fragsize_of};
 use crate::reply;
 use px_cmd::{CmdFault, Head};
 use px_header::Header;
 use px_outcome::{Refusal, Target, check};
-use px_sample::Spec;
 use px_sinks::targets_of;
 use px_state::Effects;
 use px_tag::{Packet, TagFault, TagReader};
@@ -62,9 +61,6 @@ const MONITOR: &[u8] = b".monitor";
 
 // The most record streams of a connection. Own.
 const MAX_STREAMS: usize = 64;
-
-// The most bytes of a data frame. Own.
-const MAX_FRAGMENT: u32 = 65_536;
 
 // The monitor of a sink.
 fn monitor_of(alloc: Global, sink: &Target) -> Mem<Target>
@@ -171,19 +167,6 @@ fn drop_streams(streams: &mut Vec<Recording>, conn: ConnId)
     ensures lawful { AllByRecursion IsRecording streams.old.items → AllByRecursion IsRecording streams.new.items }
 {
     streams.retain(|r| r.conn.0 != conn.0);
-}
-
-// The bytes of a data frame, where the client asks for `asked` of them: whole frames of the source, at least one.
-fn fragsize_of(spec: &Spec, asked: u32) -> u32
-    requires some { 1 ≤ spec.now.channels }
-    requires few { spec.now.channels ≤ 32 }
-    ensures value { result ≡ fragsize_of spec.now asked }
-    ensures some { 1 ≤ result }
-    ensures few { result ≤ 65536 }
-{
-    let frame = spec.frame_size() as u32;
-    let most = asked.min(MAX_FRAGMENT);
-    frame.max(most / frame * frame)
 }
 
 // The command's number and the tag that its reply will have.
