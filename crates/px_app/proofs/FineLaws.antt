@@ -103,6 +103,10 @@ tape_ok header (Some events) before after ended answered (lawful, inr fault) ok 
   not_faulted status.Host e = cc
   not_faulted status.NoSuchSink e = cc
   not_faulted status.HistoryFull e = cc
+  not_faulted status.Denied e = cc
+  not_faulted status.BadReply e = cc
+  not_faulted status.Gone e = cc
+  not_faulted status.Silent e = cc
 
 -- a report of an ending that isn't Done isn't Ok
 reported_not_ok : (end : Ending) (answered : Status) (before after : Log) → Reported end answered before after → answered ≡ status.Ok → end ≡ ending.Done

@@ -14,11 +14,11 @@ pub loop-part-preserved : goal.loop-part-preserved
 loop-part-preserved g c = record {
   lent = lent_fewer g.H.D.Device.now g.H.R.Recorder.faults g.H.R.Recorder.fulls (length c.pop_front.new.self.items) c.args.cores
       (g.H.D.Device.now c.in-Some.part.device).faults (g.H.R.Recorder.faults c.in-Some.part.recorder) (g.H.R.Recorder.fulls c.in-Some.part.recorder)
-      c.in-Some.part (g.H.Host.now c.loop-part.host) (g.H.Host.now c.retire.new.self) c.retire.ensures
+      c.in-Some.part (g.H.Host.now c.loop-part.host) (g.H.Host.now c.retire.new.self) c.retire.ensures.host
       (lent_rest c.loop-part.left.items c.pop_front.new.self.items c.in-Some.part c.args.cores (g.H.Host.now c.loop-part.host) c.in-Some.ensures.items c.loop-part.invariant.lent);
   parts = λ final later. c.loop-part.invariant.parts final
       (back_one g.H.D.Device.now g.H.R.Recorder.faults g.H.R.Recorder.fulls c.loop-part.left.items c.pop_front.new.self.items c.in-Some.part
-      (g.H.Host.now c.loop-part.host) (g.H.Host.now c.retire.new.self) final c.in-Some.ensures.items c.retire.ensures later);
+      (g.H.Host.now c.loop-part.host) (g.H.Host.now c.retire.new.self) final c.in-Some.ensures.items c.retire.ensures.host later);
 }
 
 pub returns-clause-parts : goal.returns-clause-parts
