@@ -104,7 +104,7 @@ class Pages(unittest.TestCase):
     def test_the_words_of_the_program(self):
         usage = re.search(r'"pulse_rw: usage: (.*)\\n"', read("crates", "px_app", "specs", "Ending.antt"))[1]
         words = re.findall(r"--[a-z]+|\b[a-z]+\b", usage)
-        self.assertEqual(words[:3], ["replay", "--raw", "summary"])
+        self.assertEqual(words[:3], ["replay", "--raw", "--monitor"])
         options = ["--" + word for word in re.findall(r'(?:path_rule|option_rule|new_rule) \(codes "([a-z]+)"\)', read("crates", "px_app", "specs", "ServeCommand.antt"))]
         self.assertIn("--accept", options)
         for page in ("package/help.txt", "man/pulse_rw.1", "package/completion.bash"):

@@ -27,7 +27,7 @@ fn ends<R: Machine>(
     host: &mut MemHost<R>,
     line: &[u8],
 ) -> Mem<Option<Status>> {
-    let mut log = MemSink::new(rt.alloc(), 99, Calls::none(rt.alloc()))?;
+    let mut log = MemSink::new(rt.alloc(), 199, Calls::none(rt.alloc()))?;
     let status = unwritten(rt, words, &mut log, host)?;
     Ok((log.bytes() == line).then_some(status))
 }
