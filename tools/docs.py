@@ -4,8 +4,8 @@
   tools/docs.py [FILE..]        each fault of them in a line: the file, the line and the cause
   tools/docs.py --count         how many bytes each document has, and how many faults of each kind
 
-A fault is a line over 160 characters outside of tables and code, a link to nothing, and the name of a crate, a file or a function that isn't
-there. Names are looked at in backticks, and paths below docs/, tools/, conformance/, examples/, crates/, package/ and man/ wherever they stand. A crate is `px_world`, a
+A fault is a line over 160 characters outside of tables and code, a link to nothing, a numbered point (`- **7** ..`) whose number another has, and the name of
+a crate, a file or a function that isn't there. Names are looked at in backticks, and paths below docs/, tools/, conformance/, examples/, crates/, package/ and man/ wherever they stand. A crate is `px_world`, a
 file `px_world/src/event.rt`, `src/event.rt` (of a crate that the paragraph names, or of any), `event.rt` or `docs/SERVING.md`, a function `px_app::run`,
 `World::event` or `event.rt: event`. A name with an underscore or with two capitals, as `worked_rows` or `IsPlayed`, must stand somewhere in the sources. A word of
 capitals alone in a path, as in `crates/NAME/src`, stands for a name."""
@@ -21,7 +21,7 @@ from words import Wrong
 
 TOP = os.path.dirname(os.path.dirname(os.path.abspath(__file__)))
 WIDEST = 160
-KINDS = "long", "link", "crate", "file", "name"
+KINDS = "long", "link", "crate", "file", "name", "number"
 FOLDERS = "docs|tools|conformance|examples|crates|package|man|bench"
 PATH = re.compile(rf"(?<![\w./-])(?:\./)?((?:{FOLDERS})/[\w./-]*[\w/-])")
 FILE = re.compile(r"([\w.-]+(?:/[\w.-]+)*\.(?:rt|antt|py|sh|md|c|edit))(?:: (\w+))?")
@@ -30,6 +30,7 @@ JOINED = re.compile(r"(\w+)::(\w+)(?:\(.*\))?")
 PLAIN = re.compile(r"(?:[a-z]\w*_\w+|(?:[A-Z][a-z0-9]+){2,})(?:\(.*\))?")
 LINK = re.compile(r"\[[^\]]*\]\(([^)\s]+)\)")
 TICKED = re.compile(r"`([^`]+)`")
+NUMBERED = re.compile(r"- \*\*(\d+)\*\* ")
 STANDS_FOR = re.compile(r"[A-Z]+")
 SOURCES = (".rt", ".antt", ".py", ".sh", ".c", ".txt", "")
 FOREIGN = re.compile(r"pa_\w+|max_rewind|real_volume|HashMap")  # names of PulseAudio's code, and of Rust's library
@@ -173,10 +174,20 @@ def heading_crates(lines):
     return found
 
 
+def number_faults(lines):
+    """The numbered points of a document whose number stands above them already."""
+    first, found = {}, []
+    for number, line in enumerate(lines, 1):
+        point = NUMBERED.match(line)
+        if point and first.setdefault(point[1], number) != number:
+            found.append((number, "number", f"{point[1]} is the number of line {first[point[1]]} too"))
+    return found
+
+
 def faults_of(sources, path, text):
     """The faults of a document: the line, the kind and the cause of each."""
     lines = text.split("\n")
-    kinds, found = kinds_of(lines), []
+    kinds, found = kinds_of(lines), number_faults(lines)
     for number, (line, kind, near, above) in enumerate(zip(lines, kinds, paragraphs(lines, kinds), heading_crates(lines)), 1):
         if kind == "text" and len(line) > WIDEST:
             found.append((number, "long", f"{len(line)} characters, and {WIDEST} are the most"))

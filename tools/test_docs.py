@@ -44,6 +44,9 @@ class Documents(unittest.TestCase):
         self.assertEqual(self.faults(f"{'x' * 160}\n{long}\n| {long} |\n\n    {long}\n\n```\n{long}\n```\n"), ["2: 161 characters, and 160 are the most"])
         self.assertEqual(self.faults(f"a\n    {long}\n"), ["2: 165 characters, and 160 are the most"])
 
+    def test_numbers(self):
+        self.assertEqual(self.faults("- **1** One.\n- **3** Three, **1** and **1**.\n\n## More\n- **2** Two.\n- **1** Again.\n"), ["6: 1 is the number of line 1 too"])
+
     def test_crates(self):
         self.assertEqual(self.faults("`px_low`, `tests_low` and\n`px_lo`, px_lo too\n\n    `px_lo`\n"), ["2: there is no crate px_lo"])
 
