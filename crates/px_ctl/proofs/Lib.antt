@@ -1,2 +1,3 @@
 mod NumberLaws
 mod Counting
+mod Reading

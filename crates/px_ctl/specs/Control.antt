@@ -41,6 +41,10 @@ ReadsCookie (Err (Ended end)) buffer left left' faults faults' = ⊥
 
 -- ---- the call
 
+-- a link as the client sees it
+abbrev pub link_state : {L : Type 0} → (L → Option (List ℕ)) → (L → Option (List ℕ)) → (L → LinkCounts) → L → LinkState
+link_state left sent counts link = record { left = left link; sent = sent link; counts = counts link }
+
 -- the output, the host, and the links that it dialled
 pub record Sides (D R C L : Type 0) : Type 0 where
   pub held : Option (List ℕ)
@@ -72,15 +76,12 @@ module _ {D R C L : Type 0} where
       × (after.faults ≡ before.faults)
 
 module _ {D R C L : Type 0} (left sent : L → Option (List ℕ)) (counts : L → LinkCounts) where
-  abbrev pub link_state : L → LinkState
-  link_state link = record { left = left link; sent = sent link; counts = counts link }
-
   -- the host connected, the client ran over the link, and the host took it back
   pub record RunsOver (end : ClientEnd) (cookie : List ℕ) (errand : Errand) (before after : Sides D R C L) : Type 0 where
     pub link : L
     pub link_after : L
     pub unused : counts link ≡ no_counts
-    pub runs : Runs end cookie errand (link_state link) (link_state link_after) before.held after.held before.faults after.faults
+    pub runs : Runs end cookie errand (link_state left sent counts link) (link_state left sent counts link_after) before.held after.held before.faults after.faults
     pub hung : HangsUp (counts link_after) link_after (one_given before.dialled) after.dialled
     pub host : after.host ≡ before.host
 

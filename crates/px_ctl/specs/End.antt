@@ -1,5 +1,5 @@
 -- The status of how the command `ctl` ends, and what the log has of it.
-use Rattle.std.specs.Prelude.{◌≡◌, ◌⊎◌, ℕ, List, ◌++◌, codes, decimal, Option}
+use Rattle.std.specs.Prelude.{◌≡◌, ◌⊎◌, ℕ, Bool, true, false, List, ◌++◌, codes, decimal, Option}
 use Rattle.px_types.specs.declared.status.Status.{Status}
 use Rattle.px_types.specs.declared.status.Status.TheVariants as status
 use Rattle.px_types.specs.Faults.{Rose}
@@ -25,6 +25,10 @@ abbrev pub status_of : ControlEnd → Status
 status_of (Refused at) = status.Refused
 status_of ReadFault = status.ReadFault
 status_of (Ended end) = client_status end
+
+abbrev pub is_done : ControlEnd → Bool
+is_done (Ended ends.Ok) = true
+is_done other = false
 
 -- the line that the log has of it, with its line end
 abbrev pub line_of : ControlEnd → List ℕ

@@ -1,5 +1,5 @@
 -- The words of `ctl`: the path of a server's socket, and an errand. Own.
-use Rattle.std.specs.Prelude.{◌≡◌, ℕ, Bool, true, false, cond, bytes_eq, List, [], ◌∷◌, Option, None, Some, option_map, codes}
+use Rattle.std.specs.Prelude.{◌≡◌, ℕ, Bool, true, false, cond, ◌&&◌, bytes_eq, List, [], ◌∷◌, Option, None, Some, option_map, codes}
 use Rattle.px_client.specs.declared.errand.Errand.{Errand}
 use Rattle.px_client.specs.declared.errand.Errand.TheVariants.{List as list_inputs, Volume, Mute, SinkVolume, Move, Kill}
 use Rattle.px_client.specs.Errand.{IsErrand}
@@ -64,9 +64,16 @@ abbrev pub is_ctl : List (List ℕ) → Bool
 is_ctl [] = false
 is_ctl (word ∷ words) = bytes_eq word (codes "ctl")
 
+-- the words after `ctl --socket`: a path, and the rest
+abbrev pub after_socket : List (List ℕ) → Option (List ℕ × List (List ℕ))
+after_socket [] = None
+after_socket (a ∷ []) = None
+after_socket (a ∷ b ∷ []) = None
+after_socket (a ∷ b ∷ path ∷ rest) = cond (bytes_eq a (codes "ctl") && bytes_eq b (codes "--socket")) (Some (path, rest)) None
+
 -- `ctl --socket PATH`, and the words of an errand with a name and a volume that a server takes
 pub record IsSaid (texts : List (List ℕ)) (said : ControlWords) : Type 0 where
   pub rest : List (List ℕ)
-  pub spelled : texts ≡ codes "ctl" ∷ codes "--socket" ∷ said.socket ∷ rest
+  pub after : after_socket texts ≡ Some (said.socket, rest)
   pub gives : errand_in rest ≡ Some said.errand
   pub allowed : IsErrand said.errand

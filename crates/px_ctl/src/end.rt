@@ -1,6 +1,6 @@
 // How the command `ctl` ends.
 ghost use Rattle.std.specs.Prelude.{◌≡◌, IfOk, string_bytes};
-ghost use Rattle.px_ctl.specs.End.{client_status, status_of, line_of};
+ghost use Rattle.px_ctl.specs.End.{client_status, status_of, is_done, line_of};
 
 use px_client::ClientEnd;
 use px_types::Status;
@@ -43,6 +43,13 @@ impl ControlEnd {
             ControlEnd::ReadFault => Status::ReadFault,
             ControlEnd::Ended(end) => client_status(end),
         }
+    }
+
+    // Whether the errand is done.
+    pub(crate) fn is_done(self) -> bool
+        ensures { result ≡ is_done self }
+    {
+        matches!(self, ControlEnd::Ended(ClientEnd::Ok))
     }
 
     // The log's line of it, with its line end. That of a client that did its errand isn't written.

@@ -3,7 +3,6 @@ ghost use Rattle.std.specs.Prelude.{◌≡◌};
 ghost use Rattle.px_ctl.specs.End.{Logs, ControlReported};
 
 use crate::end::ControlEnd;
-use px_client::ClientEnd;
 use px_ends::{Sink, write_all};
 use px_types::Status;
 use std::alloc::Global;
@@ -23,7 +22,7 @@ fn write_line<G: Sink>(status: Status, line: &[u8], log: &mut G) -> Status
 pub fn report_control<G: Sink>(alloc: Global, end: ControlEnd, log: &mut G) -> Status
     ensures { ControlReported end result (G.held log.old) (G.held log.new) (G.faults log.old) (G.faults log.new) }
 {
-    if let ControlEnd::Ended(ClientEnd::Ok) = end {
+    if end.is_done() {
         return Status::Ok;
     }
     match end.line(alloc) {

@@ -1,8 +1,8 @@
 // The words of `ctl`.
-ghost use Rattle.std.specs.Prelude.{◌≡◌, map, string_bytes, IfOk, IfErr};
+ghost use Rattle.std.specs.Prelude.{◌≡◌, map, string_bytes, None, Some, MatchOption, IfOk, IfErr};
 ghost use Rattle.px_ctl.specs.declared.words.ControlWords.{ControlWords as Said};
 ghost use Rattle.px_ctl.specs.declared.words.WordsFault.TheVariants as fault;
-ghost use Rattle.px_ctl.specs.Words.{is_ctl, IsSaid};
+ghost use Rattle.px_ctl.specs.Words.{is_ctl, after_socket, IsSaid};
 
 use crate::errand::errand;
 use px_client::Errand;
@@ -48,14 +48,16 @@ pub fn is_ctl(words: &[String]) -> bool
 }
 
 // The words after `ctl --socket`: the path, and those of the errand. `None` where the words begin otherwise.
-fn after_socket(words: &[String]) -> Option<(&str, &[String])> {
-    match words {
-        [first, second, path, rest @ ..]
-            if first.as_str() == "ctl" && second.as_str() == "--socket" =>
-        {
-            Some((path.as_str(), rest))
-        }
-        _ => None,
+fn after_socket(words: &[String]) -> Option<(&str, &[String])>
+    ensures { MatchOption result (after_socket (map string_bytes words.now) ≡ None) (λ found. after_socket (map string_bytes words.now) ≡ Some (found.0.now, map string_bytes found.1.now)) }
+{
+    let [first, second, path, rest @ ..] = words else {
+        return None;
+    };
+    if first.as_str() == "ctl" && second.as_str() == "--socket" {
+        Some((path.as_str(), rest))
+    } else {
+        None
     }
 }
 
