@@ -17,11 +17,14 @@ import reckon
 import strict
 import wire
 from fronts import thrown_recorders
+from handlers import usec
 from maker import make
 from packets import NEWEST, OLDEST
 from recording import read_session, spelled_bytes, spelled_event, spelled_header
+from server import RECORDER_NUMBERS
 from strict import FLAG, MAP, NUMBER, PROPERTIES, SPEC, TEXT
 from teller import show
+from throws import SINKS, thrown_sinks
 from words import NONE
 
 import output
@@ -97,7 +100,7 @@ class Monitored(reckon.Server):
 
     def packet(self, conn, packet):
         client, number = self.clients[conn], strict.number_of(packet)
-        if client.known and number in reckon.RECORDER_NUMBERS:
+        if client.known and number in RECORDER_NUMBERS:
             return self.own(conn, client, number, packet)
         self.sieved.append((2, conn, wire.packet_frame(packet)))
         return super().packet(conn, packet)
@@ -134,7 +137,7 @@ class Monitored(reckon.Server):
         self.made[conn] += 1
         self.outputs += 1
         said = b"".join(map(wire.number, numbers)) + wire.spec(spec) + wire.channel_map(sink.spec.positions)
-        said += wire.number(sink.number) + wire.text(sink.spec.name + b".monitor") + wire.flag(False) + reckon.usec(0)
+        said += wire.number(sink.number) + wire.text(sink.spec.name + b".monitor") + wire.flag(False) + usec(0)
         return self.send(conn, 2, tag, said)
 
     def source(self, index, name):
@@ -205,7 +208,7 @@ def sieved(session):
 def throw(number, turns):
     """Six streams of two clients on three sinks, and record streams of three clients that come and go."""
     dice = random.Random(number)
-    lines = [line for line in reckon.thrown_sinks(number, turns).splitlines() if not line.startswith("#")]
+    lines = [line for line in thrown_sinks(number, turns).splitlines() if not line.startswith("#")]
     said = [f"# Thrown with the dice of {number}: record streams of three clients on three sinks, {turns} turns. Its output is conformance/monitors.py's."]
     versions = {1: OLDEST, 2: OLDEST, 3: NEWEST}
     for line in lines:
@@ -225,11 +228,11 @@ def thrown_command(dice, conn, version):
     if dice.randrange(3) == 0:
         return f"delete-record {conn} stream {dice.randrange(9)}"
     at = dice.randrange(3)
-    name, *shape = reckon.SINKS[at].split(" guard ")[0].split()
+    name, *shape = SINKS[at].split(" guard ")[0].split()
     named = dice.choice((f"index {at}", f"source {name}.monitor", "index 3", "source out")[: dice.choice((2, 2, 4))])
     if dice.randrange(6) == 0:
         shape, named = ["s24be", "1", "96000", "map", "1"], named + " fix_format fix_rate" + dice.choice((" fix_channels", ""))
-    size = wire.frame_size((wire.FORMATS.index(reckon.SINKS[at].split()[1]), int(reckon.SINKS[at].split()[2]), 0))
+    size = wire.frame_size((wire.FORMATS.index(SINKS[at].split()[1]), int(SINKS[at].split()[2]), 0))
     size = dice.choice((NONE, NONE, NONE, 0, 7 * size + size // 2, 20 * size))
     more = dice.choice(("", "", " early_requests")) if version > OLDEST else ""
     return f"create-record {conn} {' '.join(shape)} {named} maxlength {dice.choice((0, 5000, NONE))} fragsize {size}{more}"
@@ -238,7 +241,7 @@ def thrown_command(dice, conn, version):
 def many():
     """64 record streams of a connection, and what it is told of more; two connections have 64 each."""
     create = "create-record {} tag {} s16le 1 48000 map 0 fragsize {}"
-    lines = ["# A connection has at most 64 record streams at a time: where one is deleted there may be another, whose number is a new one.", f"sink {reckon.SINKS[0]}"]
+    lines = ["# A connection has at most 64 record streams at a time: where one is deleted there may be another, whose number is a new one.", f"sink {SINKS[0]}"]
     for conn in (1, 2):
         lines += [f"connect {conn}", f"auth {conn} tag 0 version 13", *(create.format(conn, tag, 2 * tag) for tag in range(1, MOST_STREAMS + 1))]
     lines += ["turn out 0 take 0", "turn out 40 take 0", create.format(1, 65, 2), create.format(1, 66, 2) + " corked", create.format(1, 67, 2) + " index 1"]

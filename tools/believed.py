@@ -17,13 +17,14 @@ import re
 import sys
 
 import definitions
-from command import ended
+from command import asked, ended
 from crates import crates_of, read
 from definitions import Definition, bound_in, chunks, file_of, read_code, read_definitions, told, tokens_of
+from marked import Marked
 from words import Wrong
 
 TOP = os.path.dirname(os.path.dirname(os.path.abspath(__file__)))
-FIRST, LAST = "<!-- believed: tools/believed.py -->", "<!-- end of believed -->"
+TABLE = Marked("a table", "<!-- believed: tools/believed.py -->", "<!-- end of believed -->", "the definitions give", "tools/believed.py")
 STARTS = {"replay": ("px_app.src.replaying", "replay"), "run": ("px_app.src.program", "run")}
 
 
@@ -247,41 +248,14 @@ def listed(top, name, with_names):
     return lines
 
 
-def place_of(lines, path):
-    """Where the table of a file begins and ends."""
-    if lines.count(FIRST) != 1 or lines.count(LAST) != 1 or lines.index(LAST) < lines.index(FIRST):
-        raise Wrong(f"{path}: a table stands between one line {FIRST} and one line {LAST}")
-    return lines.index(FIRST) + 1, lines.index(LAST)
-
-
-def check(wanted, said, path):
-    """Tells where the table of a file's text differs from the one wanted."""
-    lines = said.split("\n")
-    start, end = place_of(lines, path)
-    here = lines[start:end]
-    for i in range(max(len(wanted), len(here))):
-        if wanted[i : i + 1] != here[i : i + 1]:
-            one, other = (part[i] if i < len(part) else "no more lines" for part in (wanted, here))
-            raise Wrong(f"{path}:{start + i + 1}: the definitions give: {one}; and here: {other} (tools/believed.py --write {path})")
-
-
-def written(wanted, said, path):
-    """The text of a file, with the table in its place."""
-    lines = said.split("\n")
-    start, end = place_of(lines, path)
-    return "\n".join(lines[:start] + wanted + lines[end:])
-
-
 def act(words, top):
     """Does what the words say; answers whether they say anything."""
     if words in ([], ["--table"]):
         print("\n".join(table(top) if words else plain(top)))
     elif len(words) == 2 and words[0] == "--check":
-        check(table(top), read(words[1]), words[1])
+        TABLE.check(table(top), read(words[1]), words[1])
     elif len(words) == 2 and words[0] == "--write":
-        changed = written(table(top), read(words[1]), words[1])
-        with open(words[1], "w", encoding="utf-8") as file:
-            file.write(changed)
+        TABLE.write(table(top), words[1])
     elif words[:1] in (["--files"], ["--names"]) and (len(words) == 1 or len(words) == 2 and words[1] in STARTS):
         print("\n".join(listed(top, (words[1:] or ["replay"])[0], words[0] == "--names")))
     else:
@@ -290,14 +264,7 @@ def act(words, top):
 
 
 def main(words):
-    try:
-        if act(words, TOP):
-            return 0
-    except Wrong as wrong:
-        print(wrong, file=sys.stderr)
-        return 1
-    print(__doc__, file=sys.stderr)
-    return 2
+    return asked(lambda: act(words, TOP), __doc__)
 
 
 if __name__ == "__main__":

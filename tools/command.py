@@ -3,6 +3,8 @@
 import os
 import sys
 
+from words import Wrong
+
 
 def ended(main):
     """Runs a command, and answers its status. A pipe that is closed, a full disk or a folder is told in a line, or not at all."""
@@ -17,3 +19,15 @@ def ended(main):
     # what stands in the buffer still can't be written: it is let go
     os.dup2(os.open(os.devnull, os.O_WRONLY), sys.stdout.fileno())
     return 1
+
+
+def asked(act, page):
+    """Does what a command was asked for; answers its status. What is wrong is told in a line; where nothing was asked for its page is shown."""
+    try:
+        if act():
+            return 0
+    except Wrong as wrong:
+        print(wrong, file=sys.stderr)
+        return 1
+    print(page, file=sys.stderr)
+    return 2

@@ -11,11 +11,12 @@ A crate of level 1 stands on no crate of the repository, any other stands a leve
 import os
 import sys
 
-from command import ended
+from command import asked, ended
+from marked import Marked
 from words import Wrong
 
 TOP = os.path.dirname(os.path.dirname(os.path.abspath(__file__)))
-FIRST, LAST = "<!-- map: tools/crates.py -->", "<!-- end of map -->"
+MAP = Marked("a map", "<!-- map: tools/crates.py -->", "<!-- end of map -->", "not the map of crates.txt, which has", "tools/crates.py")
 WIDTH = 150
 
 # the libraries of the kit that crates stand on
@@ -124,32 +125,6 @@ def block(text):
     return ["```", *picture(crates), "```", "", f"longest chain ({len(names)}): {' > '.join(names)}"]
 
 
-def place_of(lines, path):
-    """Where the block of a file begins and ends."""
-    if lines.count(FIRST) != 1 or lines.count(LAST) != 1 or lines.index(LAST) < lines.index(FIRST):
-        raise Wrong(f"{path}: a map stands between one line {FIRST} and one line {LAST}")
-    return lines.index(FIRST) + 1, lines.index(LAST)
-
-
-def check(text, said, path):
-    """Tells where the block of a file's text differs from the map of crates.txt's text."""
-    wanted, lines = block(text), said.split("\n")
-    start, end = place_of(lines, path)
-    found = lines[start:end]
-    for i in range(max(len(wanted), len(found))):
-        one, other = (part[i] if i < len(part) else "no more lines" for part in (wanted, found))
-        if wanted[i : i + 1] != found[i : i + 1]:
-            at = f"{path}:{start + i + 1}"
-            raise Wrong(f"{at}: not the map of crates.txt, which has: {one.strip()}; and here: {other.strip()} (tools/crates.py --write {path})")
-
-
-def written(text, said, path):
-    """The text of a file, with the map of crates.txt's text in its place."""
-    lines = said.split("\n")
-    start, end = place_of(lines, path)
-    return "\n".join(lines[:start] + block(text) + lines[end:])
-
-
 def count(folder, ending):
     """The lines of the files of a folder with an ending."""
     total = 0
@@ -186,25 +161,16 @@ def act(words, text):
     elif words == ["--lines"]:
         print("\n".join(counts(text, TOP)))
     elif len(words) == 2 and words[0] == "--check":
-        check(text, read(words[1]), words[1])
+        MAP.check(block(text), read(words[1]), words[1])
     elif len(words) == 2 and words[0] == "--write":
-        changed = written(text, read(words[1]), words[1])
-        with open(words[1], "w", encoding="utf-8") as file:
-            file.write(changed)
+        MAP.write(block(text), words[1])
     else:
         return False
     return True
 
 
 def main(words):
-    try:
-        if act(words, read(os.path.join(TOP, "crates.txt"))):
-            return 0
-    except Wrong as wrong:
-        print(wrong, file=sys.stderr)
-        return 1
-    print(__doc__, file=sys.stderr)
-    return 2
+    return asked(lambda: act(words, read(os.path.join(TOP, "crates.txt"))), __doc__)
 
 
 if __name__ == "__main__":

@@ -11,7 +11,9 @@ from words import Wrong
 USE = re.compile(r"^\s*(pub |ghost )?use ([\w.?]+?)(?:\.\{(.*)\}| as (\w+));?\s*$")
 HEAD = re.compile(r"(?:(?:abbrev|unfoldable|opaque) )?(?:pub )?(?:(record|data) )?(\S+)")
 STARTS = re.compile(r"(?:abbrev|unfoldable|opaque|pub|record|data)\b")
-DECLARED = re.compile(r"^(?:pub(?:\([a-z]+\))? )?(struct|enum|trait|const|type) (\w+)")
+KINDS = "struct|enum|trait|const|type"
+DECLARED = re.compile(rf"^(?:pub(?:\([a-z]+\))? )?({KINDS}) (\w+)")
+NAMED = re.compile(rf"\b(?:{KINDS}|fn|mod) (\w+)")
 MODEL = re.compile(r"^impl(?:<.*?>)? Model for (\w+)")
 BOUND = re.compile(r"[({]([^(){}:]*?) ?: ")
 LAMBDA = re.compile(r"λ ([^.]*?)\. ")
@@ -153,6 +155,11 @@ def read_code(path, text):
         elif model and model.group(1) in module.found:
             module.found[model.group(1)].lines += [it for it in lines[i : block_end(lines, i)] if not it.lstrip().startswith("ghost use ")]
     return module
+
+
+def named_in(text):
+    """The names of all that a text of code declares: types, traits, constants, functions and modules, those of its types too."""
+    return set(NAMED.findall(text))
 
 
 def chunks(definition):

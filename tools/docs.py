@@ -16,6 +16,7 @@ import sys
 
 from command import ended
 from crates import KIT, crates_of, read
+from definitions import named_in
 from words import Wrong
 
 TOP = os.path.dirname(os.path.dirname(os.path.abspath(__file__)))
@@ -55,7 +56,7 @@ class Sources:
                 return
             self.words.update(re.findall(r"\w+", text))
             if path.endswith(".rt") and "/src/" in path:
-                self.declared.setdefault(path.split("/")[1], {})[path] = set(re.findall(r"\b(?:fn|struct|enum|trait|type|const|mod) (\w+)", text))
+                self.declared.setdefault(path.split("/")[1], {})[path] = named_in(text)
 
     def is_path(self, path):
         """Whether there is a file or a folder of this path."""

@@ -173,14 +173,14 @@ class Believing(unittest.TestCase):
 
     def test_the_table_of_a_file(self):
         wanted = believed.table(self.top)
-        said = f"# It\n\n{believed.FIRST}\nold\n{believed.LAST}\n\nmore\n"
-        changed = believed.written(wanted, said, "It.md")
-        self.assertEqual(changed, "\n".join(["# It", "", believed.FIRST, *wanted, believed.LAST, "", "more", ""]))
-        believed.check(wanted, changed, "It.md")
+        said = f"# It\n\n{believed.TABLE.first}\nold\n{believed.TABLE.last}\n\nmore\n"
+        changed = believed.TABLE.written(wanted, said, "It.md")
+        self.assertEqual(changed, "\n".join(["# It", "", believed.TABLE.first, *wanted, believed.TABLE.last, "", "more", ""]))
+        believed.TABLE.check(wanted, changed, "It.md")
         with self.assertRaisesRegex(Wrong, r"It.md:6: the definitions give: \| px_low \| 11 \| 36 .*; and here: \| px_low \| 12 \| 36"):
-            believed.check(wanted, changed.replace("| 11 |", "| 12 |", 1), "It.md")
+            believed.TABLE.check(wanted, changed.replace("| 11 |", "| 12 |", 1), "It.md")
         with self.assertRaisesRegex(Wrong, "It.md: a table stands between one line"):
-            believed.check(wanted, "# It\n", "It.md")
+            believed.TABLE.check(wanted, "# It\n", "It.md")
 
     def test_what_is_not_there(self):
         self.write("crates/px_low/specs/Deep.antt", DEEP.replace("deep", "other"))

@@ -9,15 +9,10 @@ import unittest
 
 from maker import line_at, make
 from short import short
-from test_session import AUTH_TEXT, CREATE_TEXT
+from testing import AUTH_TEXT, TOOLS, TOP, run_tool
 from words import Wrong
 
-TOOLS = os.path.dirname(os.path.abspath(__file__))
-SESSION = os.path.join(os.path.dirname(TOOLS), "examples", "two_clients.prs")
-
-
-def run(tool, *words, **how):
-    return subprocess.run([sys.executable, "-B", os.path.join(TOOLS, tool), *words], capture_output=True, text=True, **how)
+SESSION = os.path.join(TOP, "examples", "two_clients.prs")
 
 
 class Short(unittest.TestCase):
@@ -35,11 +30,11 @@ class Short(unittest.TestCase):
             self.assertEqual(short(text), said)
 
     def test_commands(self):
-        said = run("session.py", "show", SESSION).stdout
+        said = run_tool("session.py", "show", SESSION).stdout
         self.assertLess(len(said), 8_000)
         self.assertEqual(len(said.splitlines()), said.count("\n"))
         self.assertNotIn("\\\n", said)
-        whole = run("session.py", "show", SESSION, "whole").stdout
+        whole = run_tool("session.py", "show", SESSION, "whole").stdout
         with open(SESSION, "rb") as file:
             self.assertEqual(make(whole), file.read())
 
@@ -61,10 +56,10 @@ class Lines(unittest.TestCase):
         with tempfile.NamedTemporaryFile("w", suffix=".txt") as file:
             file.write("sink out s16le 1 48000 map 0 guard 10 depth 100\nturn out 1 take 0\nend\n")
             file.flush()
-            ran = run("session.py", "at", "280", file.name)
+            ran = run_tool("session.py", "at", "280", file.name)
             self.assertEqual((ran.returncode, ran.stdout), (0, f"{file.name}:2: turn out 1 take 0\n"))
-            self.assertEqual(run("session.py", "at", "999", file.name).returncode, 1)
-            self.assertEqual(run("session.py", "at", "-1", file.name).returncode, 2)
+            self.assertEqual(run_tool("session.py", "at", "999", file.name).returncode, 1)
+            self.assertEqual(run_tool("session.py", "at", "-1", file.name).returncode, 2)
 
 
 class Asked(unittest.TestCase):
@@ -107,7 +102,7 @@ class Ends(unittest.TestCase):
     def test_folders_and_missing_files(self):
         for words in (("session.py", "show", "/"), ("session.py", "make", "/"), ("output.py", "show", "/none"),
                       ("output.py", "show", SESSION, "--session", "/")):
-            ran = run(*words)
+            ran = run_tool(*words)
             self.assertEqual(ran.returncode, 1)
             self.assertEqual(ran.stderr.count("\n"), 1)
             self.assertRegex(ran.stderr, "^/(none)?: ")

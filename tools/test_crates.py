@@ -8,6 +8,7 @@ import tempfile
 import unittest
 
 import crates
+import needed
 from words import Wrong
 
 TOOLS = os.path.dirname(os.path.abspath(__file__))
@@ -76,11 +77,11 @@ class InFiles(unittest.TestCase):
     def setUp(self):
         self.room = tempfile.mkdtemp()
         self.addCleanup(shutil.rmtree, self.room)
-        for name in ("crates.py", "command.py", "words.py"):
+        for name in needed.needed(["crates"]):
             os.makedirs(os.path.join(self.room, "tools"), exist_ok=True)
             shutil.copy2(os.path.join(TOOLS, name), os.path.join(self.room, "tools", name))
         self.write("crates.txt", TEXT)
-        self.write("page.md", f"# Page\n\n{crates.FIRST}\n{MAP}\n{crates.LAST}\nmore\n")
+        self.write("page.md", f"# Page\n\n{crates.MAP.first}\n{MAP}\n{crates.MAP.last}\nmore\n")
 
     def write(self, name, text):
         path = os.path.join(self.room, name)
@@ -122,7 +123,7 @@ class InFiles(unittest.TestCase):
             self.assertEqual((status, said.split(" ")[0], said.count("\n")), (1, f"page.md:{line}:", 1))
 
     def test_no_place_for_it(self):
-        for text in ("", f"{crates.FIRST}\n", f"{crates.LAST}\n{crates.FIRST}\n"):
+        for text in ("", f"{crates.MAP.first}\n", f"{crates.MAP.last}\n{crates.MAP.first}\n"):
             self.write("page.md", text)
             for word in ("--check", "--write"):
                 status, _, said = self.run_it(word, "page.md")

@@ -8,11 +8,11 @@ import tempfile
 import unittest
 
 from recording import Place, read_header
-from test_commands import TOOLS, run
+from testing import TOOLS, run_tool
 
 
 def made(*words, **environment):
-    return run("header.py", *words, env=dict(os.environ, **environment))
+    return run_tool("header.py", *words, env=dict(os.environ, **environment))
 
 
 def run_bytes(*words, **environment):

@@ -8,7 +8,7 @@ import output
 import wire
 from maker import make
 from recording import read_session
-from test_session import AUTH_TEXT, CREATE_TEXT, FRONT, SINK, contents
+from testing import AUTH_TEXT, CREATE_TEXT, FRONT, SINK, contents
 from words import Wrong
 
 

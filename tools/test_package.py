@@ -5,13 +5,10 @@ import re
 import shutil
 import subprocess
 import sys
-import tempfile
 import unittest
 
 import needed
-
-TOOLS = os.path.dirname(os.path.abspath(__file__))
-TOP = os.path.dirname(TOOLS)
+from testing import TOOLS, TOP, InARoom, run
 
 
 def read(*parts):
@@ -19,24 +16,8 @@ def read(*parts):
         return file.read()
 
 
-def run(*words, **how):
-    ran = subprocess.run(words, capture_output=True, text=True, **how)
-    return ran.returncode, ran.stdout, ran.stderr
-
-
 @unittest.skipUnless(shutil.which("dpkg-deb"), "no dpkg-deb is there")
-class Packing(unittest.TestCase):
-    def setUp(self):
-        self.room = tempfile.mkdtemp()
-        self.addCleanup(shutil.rmtree, self.room)
-
-    def path(self, name, data=None):
-        path = os.path.join(self.room, name)
-        if data is not None:
-            with open(path, "wb") as file:
-                file.write(data)
-        return path
-
+class Packing(InARoom):
     def pack(self, *words):
         return run(os.path.join(TOOLS, "package.sh"), *words, cwd=self.room)
 

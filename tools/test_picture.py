@@ -13,7 +13,7 @@ import picture
 import wire
 from maker import make
 from recording import read_session
-from test_commands import run
+from testing import run_tool
 from test_output import sent
 from words import Wrong
 
@@ -215,24 +215,24 @@ class Commands(unittest.TestCase):
 
     def test_words(self):
         session, data = self.file(self.SESSION), self.file(self.OUTPUT)
-        ran = run("output.py", "picture", data, "--session", session)
+        ran = run_tool("output.py", "picture", data, "--session", session)
         self.assertEqual((ran.returncode, ran.stderr, tree.fromstring(ran.stdout).tag), (0, "", SVG + "svg"))
         for words in ([data], [], [data, "--session"], [data, "--session", session, "--sink", "out"], [data, "whole", "--session", session]):
-            ran = run("output.py", "picture", *words)
+            ran = run_tool("output.py", "picture", *words)
             self.assertEqual((ran.returncode, ran.stdout, ran.stderr[:21]), (2, "", "What `pulse_rw replay"))
 
     def test_a_session_that_is_not_whole(self):
         session, data = self.file(self.SESSION[:-1]), self.file(self.OUTPUT)
         said = f"{session}: refused at {len(self.SESSION) - 1}: truncated\n"
         for word in ("picture", "show"):
-            ran = run("output.py", word, data, "--session", session)
+            ran = run_tool("output.py", word, data, "--session", session)
             self.assertEqual((ran.returncode, ran.stdout, ran.stderr), (1, "", said))
 
     def test_an_output_that_ends_early(self):
         """It is drawn as far as it goes: without the record of the turn there is no frame that was played."""
         session = self.file(self.SESSION)
         for cut, said, played in ((1, "it has no end byte", "90 frames played"), (9, "the output ends within the record", "0 frames played")):
-            ran = run("output.py", "picture", self.file(self.OUTPUT[:-cut]), "--session", session)
+            ran = run_tool("output.py", "picture", self.file(self.OUTPUT[:-cut]), "--session", session)
             self.assertEqual(ran.returncode, 1)
             self.assertIn(said, ran.stderr)
             self.assertIn(played, texts(lanes(tree.fromstring(ran.stdout), "sink")[0]))
@@ -245,6 +245,6 @@ class Commands(unittest.TestCase):
 
     def test_the_output_of_another_session(self):
         other = self.file(make(SINK + AUTH + CREATE + "turn out 0 take 2\nturn out 80 take 0\nend\n"))
-        ran = run("output.py", "picture", self.file(self.OUTPUT), "--session", other)
+        ran = run_tool("output.py", "picture", self.file(self.OUTPUT), "--session", other)
         self.assertEqual((ran.returncode, ran.stdout), (1, ""))
         self.assertIn("it isn't the output of this session", ran.stderr)

@@ -2,37 +2,17 @@
 
 import os
 import re
-import shutil
-import subprocess
 import sys
-import tempfile
 import unittest
 
-TOOLS = os.path.dirname(os.path.abspath(__file__))
-TOP = os.path.dirname(TOOLS)
-
-
-def run(*words, **how):
-    ran = subprocess.run(words, capture_output=True, text=True, **how)
-    return ran.returncode, ran.stdout, ran.stderr
+from testing import TOOLS, TOP, InARoom, run
 
 
 def px(*words, **how):
     return run(sys.executable, "-B", os.path.join(TOOLS, "px"), *words, **how)
 
 
-class OneCommand(unittest.TestCase):
-    def setUp(self):
-        self.room = tempfile.mkdtemp()
-        self.addCleanup(shutil.rmtree, self.room)
-
-    def path(self, name, data=None):
-        path = os.path.join(self.room, name)
-        if data is not None:
-            with open(path, "wb") as file:
-                file.write(data)
-        return path
-
+class OneCommand(InARoom):
     def test_each_word_has_a_page(self):
         status, out, said = px("--help")
         self.assertEqual((status, said), (0, ""))

@@ -22,7 +22,7 @@ from recording import read_session
 from records import Records
 from short import short
 from teller import show
-from test_session import FRONT, SINK, frame_of
+from testing import FRONT, SINK, frame_of
 from words import Wrong
 
 SPECIFIED = "61030100" "00bb80" "6d0100"

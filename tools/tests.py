@@ -19,10 +19,14 @@ import test_package
 import test_picture
 import test_px
 import test_recorders
+import test_refused
 import test_session
+import test_shown
 
 MODULES = (
     test_session,
+    test_shown,
+    test_refused,
     test_output,
     test_recorders,
     test_picture,
