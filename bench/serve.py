@@ -114,7 +114,9 @@ def theirs(folder, sinks, counted):
     for sink in sinks:
         words += ["-L", f"module-null-sink sink_name={sink} rate={RATE} channels=2 format=s16le"]
     words += ["-L", f"module-native-protocol-unix auth-anonymous=1 socket={socket}"]
-    return Server(words, folder, socket, dict(os.environ, HOME=folder, XDG_RUNTIME_DIR=folder, XDG_CONFIG_HOME=folder), counted)
+    # with the variable set, as it sets it, it doesn't begin anew beyond callgrind's reach
+    place = dict(os.environ, HOME=folder, XDG_RUNTIME_DIR=folder, XDG_CONFIG_HOME=folder, LD_BIND_NOW="1")
+    return Server(words, folder, socket, place, counted)
 
 
 def begun(server, kind, clients, seconds, sinks):
