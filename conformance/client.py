@@ -77,12 +77,18 @@ class Client:
         """Authenticates, and answers the version that the server speaks."""
         return self.ask(AUTH, wire.number(self.version), wire.arbitrary(cookie)).number()
 
-    def play(self, sink, sound):
-        """Plays a sound on a sink, from its first frame on once all of it is there, and waits until it was played."""
-        sizes = [wire.number(UNSET), wire.flag(False), *map(wire.number, (len(sound), len(sound), UNSET, UNSET))]
+    def create(self, sink, length):
+        """A new stream on a sink, that plays from its first frame on once `length` bytes are there: its index, and that of its input."""
+        # each has a number of its own: those of one number, PulseAudio plays in step, on one sink
+        sizes = [wire.number(UNSET), wire.flag(False), *map(wire.number, (length, length, UNSET, self.tag))]
         switches = [wire.flag(False)] * 9
         kind = [wire.spec((3, 2, RATE)), wire.channel_map([1, 2]), wire.number(UNSET), wire.text(sink.encode())]
         later = [wire.flag(False) for since in LATER if since <= self.version]
-        stream = self.ask(CREATE, *kind, *sizes, wire.volume([0x10000] * 2), *switches, wire.properties([]), *later).number()
+        came = self.ask(CREATE, *kind, *sizes, wire.volume([0x10000] * 2), *switches, wire.properties([]), *later)
+        return came.number(), came.number()
+
+    def play(self, sink, sound):
+        """Plays a sound on a sink, from its first frame on once all of it is there, and waits until it was played."""
+        stream, _ = self.create(sink, len(sound))
         self.send(wire.frame_of(stream, 0, 0, sound))
         self.ask(DRAIN, wire.number(stream))

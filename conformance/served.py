@@ -27,9 +27,9 @@ def tone(frames, channels, pitch=440, peak=20_000):
     return struct.pack(f"<{len(said)}h", *said)
 
 
-def wav(sound, channels, width=2):
+def wav(sound, channels, width=2, rate=RATE):
     """A WAV of samples of 8 * `width` bits."""
-    shape = struct.pack("<HHIIHH", 1, channels, RATE, RATE * channels * width, channels * width, 8 * width)
+    shape = struct.pack("<HHIIHH", 1, channels, rate, rate * channels * width, channels * width, 8 * width)
     body = b"WAVEfmt " + struct.pack("<I", len(shape)) + shape + b"data" + struct.pack("<I", len(sound)) + sound
     return b"RIFF" + struct.pack("<I", len(body)) + body
 

@@ -1,6 +1,7 @@
-"""What the commands of tools/ share: how they end."""
+"""What the commands of tools/ share: how they end, and how they keep a cookie to its owner."""
 
 import os
+import stat
 import sys
 
 from words import Wrong
@@ -31,3 +32,14 @@ def asked(act, page):
         return 1
     print(page, file=sys.stderr)
     return 2
+
+
+def keep_private():
+    """Where the standard output is a file, nobody but its owner may read or write it from here on: what it gets has a cookie. A file that belongs to
+    another, or a disk without such modes, stays as it is."""
+    output = sys.stdout.fileno()
+    if stat.S_ISREG(os.fstat(output).st_mode):
+        try:
+            os.fchmod(output, stat.S_IRUSR | stat.S_IWUSR)
+        except PermissionError:
+            pass

@@ -6,13 +6,14 @@
 SINK is NAME[:FORMAT[:CHANNELS[:RATE]]], as `out` or `wide:s32le:6:48000`; s16le, 2 and 48000 where nothing else is said. The
 channels lie as PulseAudio lays so many out. The guard, the frames that no later word changes, is a hundredth of a second at first,
 and the depth, the frames that are mixed ahead, a tenth. The cookie is that of FILE, else the one that the clients of this user send
-by themselves ($PULSE_COOKIE, ~/.config/pulse/cookie or ~/.pulse-cookie); where there is none it is made there, for this user alone."""
+by themselves ($PULSE_COOKIE, ~/.config/pulse/cookie or ~/.pulse-cookie); where there is none it is made there, for this user alone. The header has
+it, so the file that the header goes into is made its owner's alone too."""
 
 import os
 import sys
 
 import packets
-from command import ended
+from command import ended, keep_private
 from recording import SINK_FORMATS, SinkSpec, spelled_header
 from words import Wrong, number_of
 
@@ -116,6 +117,7 @@ def main(words):
     options, sinks = said
     try:
         made = sinks_of(sinks, options.get("--guard"), options.get("--depth"))
+        keep_private()
         sys.stdout.buffer.write(spelled_header(cookie_of(options.get("--cookie")), made))
     except Wrong as wrong:
         print(wrong, file=sys.stderr)

@@ -6,11 +6,12 @@
   tools/session.py show FILE.prs whole         shows it whole, as a text that makes the same session again
   tools/session.py at OFFSET FILE.txt          says which line of a text makes the byte at an offset, as a refusal names it
 
-docs/RECORDINGS.md says how a text reads. FILE is standard input where it is `-`."""
+docs/RECORDINGS.md says how a text reads. FILE is standard input where it is `-`. A session has its server's cookie, and so has a whole text: the
+file that one of them goes into is made its owner's alone."""
 
 import sys
 
-from command import ended
+from command import ended, keep_private
 from maker import line_at, make
 from output import contents
 from short import short
@@ -45,6 +46,8 @@ def main(words):
     if made is None:
         print(__doc__, file=sys.stderr)
         return 2
+    if words[0] == "make" or words[2:] == ["whole"]:
+        keep_private()
     sys.stdout.buffer.write(made)
     return 0
 

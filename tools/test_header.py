@@ -79,6 +79,23 @@ class Header(unittest.TestCase):
             self.assertEqual(first.stdout[4:260], file.read())
         self.assertEqual(run_bytes("out", HOME=home, PULSE_COOKIE="").stdout, first.stdout)
 
+    def test_what_has_a_cookie_is_its_owners_alone(self):
+        path, text = (os.path.join(self.folder.name, name) for name in ("made", "text"))
+        with open(text, "w", encoding="utf-8") as file:
+            file.write("sink out s16le 1 48000 map 0 guard 10 depth 100\ncookie 01x256\nend\n")
+        session = os.path.join(TOOLS, "..", "examples", "two_clients.prs")
+        for words, mode in (
+            (("header.py", "--cookie", self.cookie, "out"), 0o600),
+            (("session.py", "make", text), 0o600),
+            (("session.py", "show", session, "whole"), 0o600),
+            (("session.py", "show", session), 0o644),
+        ):
+            with open(path, "wb") as file:
+                os.chmod(path, 0o644)
+                tool = [sys.executable, "-B", os.path.join(TOOLS, words[0]), *words[1:]]
+                said = subprocess.run(tool, stdout=file, stderr=subprocess.PIPE)
+            self.assertEqual((said.returncode, said.stderr, stat.S_IMODE(os.stat(path).st_mode)), (0, b"", mode), words)
+
 
 if __name__ == "__main__":
     unittest.main()

@@ -2,6 +2,7 @@
 
 import os
 import shutil
+import stat
 import subprocess
 import tempfile
 import unittest
@@ -90,6 +91,16 @@ class Launching(unittest.TestCase):
     def test_a_symlink_to_it_works(self):
         os.symlink(os.path.join(self.top, "pulse_rw"), os.path.join(self.top, "bin", "play"))
         self.assertEqual(self.run_it("replay", by="bin/play")[:2], (0, "program of one, with low: replay\n"))
+
+    def test_a_tape_is_its_owners_alone(self):
+        self.run_it()
+        for words, mode in ((("serve", "--tape", "--accept", "1"), 0o600), (("convert",), 0o600), (("replay",), 0o644), (("serve", "--accept", "1"), 0o644)):
+            path = os.path.join(self.room, "tape")
+            with open(path, "wb") as tape:
+                os.chmod(path, 0o644)
+                env = {**os.environ, "PATH": f"{self.top}/bin:{os.environ['PATH']}"}
+                ran = subprocess.run([os.path.join(self.top, "pulse_rw"), *words], stdout=tape, stderr=subprocess.PIPE, env=env)
+            self.assertEqual((ran.returncode, ran.stderr, stat.S_IMODE(os.stat(path).st_mode)), (0, b"", mode), words)
 
     def test_it_says_where_the_program_is(self):
         program = os.path.join(self.top, "crates/pulse_rw/out/pulse_rw")

@@ -88,9 +88,11 @@ class Pages(unittest.TestCase):
         self.assertEqual(words[:3], ["replay", "--raw", "--monitor"])
         options = ["--" + word for word in re.findall(r'(?:path_rule|option_rule|new_rule) \(codes "([a-z]+)"\)', read("crates", "px_app", "specs", "ServeCommand.antt"))]
         self.assertIn("--accept", options)
+        errands = re.findall(r'bytes_eq (?:word|first) \(codes "([a-z-]+)"\)', read("crates", "px_ctl", "specs", "Words.antt"))
+        self.assertIn("sink-volume", errands)
         for page in ("package/help.txt", "man/pulse_rw.1", "package/completion.bash"):
             text = read(page).replace("\\-", "-")
-            for word in words + options + ["--help", "--version"]:
+            for word in words + options + errands + ["--help", "--version"]:
                 self.assertRegex(text, rf"(?<![\w-]){word}\b", f"{page} has no {word}")
 
     def test_the_statuses(self):

@@ -17,6 +17,7 @@ pub mod CompleteLaws
 pub mod PlayedLaws
 pub mod ReplayLaws
 pub mod ConvertLaws
+pub mod ControlLaws
 pub mod RunLaws
 pub mod EitherLaws
 pub mod FinalLaws

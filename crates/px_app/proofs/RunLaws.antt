@@ -6,6 +6,7 @@ use Rattle.px_types.specs.declared.status.Status.TheVariants as status
 use Rattle.px_annals.specs.declared.entry.CoreEntry.{CoreEntry}
 use Rattle.px_annals.specs.declared.entry.LaneEntry.{LaneEntry}
 use Rattle.px_ends.specs.Device.{DeviceState}
+use Rattle.px_ends.specs.Links.{LinkCounts}
 use Rattle.px_gen.specs.Generator.{generated}
 use Rattle.px_app.specs.declared.ending.Ending.{Ending}
 use Rattle.px_app.specs.declared.ending.Ending.TheVariants as ending
@@ -13,12 +14,15 @@ use Rattle.px_app.specs.declared.words.Words.{Words}
 use Rattle.px_app.specs.Ends.{Ends, Log}
 use Rattle.px_app.specs.Ending.{status_of}
 use Rattle.px_app.specs.Making.{MadeFront, Makes, Made, Generates}
+use Rattle.px_app.specs.Outside.{Outside, HostStays}
 use Rattle.px_app.specs.Plays.{NoneRose}
 use Rattle.px_app.specs.Report.{Reported}
-use Rattle.px_app.specs.Run.{Outside, IsUsage, DoesAlone, Serves, Does}
+use Rattle.px_app.specs.Run.{IsUsage, DoesAlone, Serves, Does}
 use Rattle.px_app.specs.Serving.{Served}
 use Rattle.px_app.specs.Tape.{out_end}
-use Rattle.px_app.specs.Words.{Command, Replay, Monitor, Convert, Gen, Serve, Other, meaning_in, meaning_of, is_serve, alone_in, command_in}
+use Rattle.px_app.specs.Controlling.{ControlledBy}
+use Rattle.px_ctl.specs.Words.{is_ctl}
+use Rattle.px_app.specs.Words.{Command, Replay, Monitor, Convert, Gen, Serve, Control, Other, meaning_in, meaning_of, is_serve, alone_in, command_in}
 use Rattle.px_app.proofs.FineLaws.{served_fine}
 use Rattle.px_app.proofs.FrontLaws.{whole_front}
 use Rattle.px_app.proofs.PlayedLaws.{accounted_so, not_write_fault}
@@ -97,32 +101,48 @@ module _ (answered : Status) (ends : Ends) (before after : Log) (r : Reported en
 pub alone_is : (texts : List (List ℕ)) (found : Option Words) → option_map meaning_of found ≡ meaning_in texts → unwrap_or (option_map meaning_of found) Other ≡ alone_in texts
 alone_is texts found is = ap (λ (o : Option Command). unwrap_or o Other) is
 
-module _ {D R C : Type 0} (core_visible : C → Option (List CoreEntry)) (core_faults core_fulls : C → ℕ) (now : D → DeviceState) (visible : R → Option (List LaneEntry)) (faults fulls : R → ℕ)
-    (texts : List (List ℕ)) (answered : Status) (before after : Outside D R C) where
-  abbrev DoesSo : Command → Type 0
-  DoesSo command = Does core_visible core_faults core_fulls now visible faults fulls command texts answered before after
+module _ {D R C L : Type 0} (core_visible : C → Option (List CoreEntry)) (core_faults core_fulls : C → ℕ) (now : D → DeviceState) (visible : R → Option (List LaneEntry)) (faults fulls : R → ℕ)
+    (texts : List (List ℕ)) (answered : Status) (before after : Outside D R C L) where
+  pub serves : Served core_visible core_faults core_fulls now visible faults fulls texts answered before.host after.host
+      (out_end before.ends.held before.ends.write_faults) (out_end after.ends.held after.ends.write_faults) before.log after.log
+      → after.ends.left ≡ before.ends.left → after.ends.read_faults ≡ before.ends.read_faults → after.dialled ≡ before.dialled
+      → Serves core_visible core_faults core_fulls now visible faults fulls texts answered before after
+  serves s unread quiet dialled = record {
+    exact = s;
+    unread = unread;
+    quiet = quiet;
+    ok = served_fine core_visible core_faults core_fulls now visible faults fulls texts answered before.host after.host
+        (out_end before.ends.held before.ends.write_faults) (out_end after.ends.held after.ends.write_faults) before.log after.log s;
+    dialled = dialled;
+  }
 
-  by_command : (command : Command) → DoesAlone command answered before.ends after.ends before.log after.log → after.host ≡ before.host → DoesSo command
+module _ {D R C L : Type 0} (core_visible : C → Option (List CoreEntry)) (core_faults core_fulls : C → ℕ) (now : D → DeviceState) (visible : R → Option (List LaneEntry)) (faults fulls : R → ℕ)
+    (left sent : L → Option (List ℕ)) (counts : L → LinkCounts) (texts : List (List ℕ)) (answered : Status) (before after : Outside D R C L) where
+  abbrev DoesSo : Command → Type 0
+  DoesSo command = Does core_visible core_faults core_fulls now visible faults fulls left sent counts command texts answered before after
+
+  by_command : (command : Command) → DoesAlone command answered before.ends after.ends before.log after.log → HostStays before after → DoesSo command
   by_command (Replay shown) does host = (does, host)
   by_command Monitor does host = (does, host)
   by_command Convert does host = (does, host)
   by_command (Gen number count) does host = (does, host)
   by_command Other does host = (does, host)
   by_command Serve does host = absurd does
+  by_command Control does host = absurd does
 
-  pub does_alone : is_serve texts ≡ false → DoesAlone (alone_in texts) answered before.ends after.ends before.log after.log → after.host ≡ before.host → DoesSo (command_in texts)
-  does_alone other does host = subst (λ (b : Bool). DoesSo (cond b Serve (alone_in texts))) (sym other) (by_command (alone_in texts) does host)
+  -- by words that aren't those of `serve`
+  abbrev Otherwise : Bool → Type 0
+  Otherwise ctl = DoesSo (cond ctl Control (alone_in texts))
+
+  unserved : is_serve texts ≡ false → Otherwise (is_ctl texts) → DoesSo (command_in texts)
+  unserved other does = subst (λ (b : Bool). DoesSo (cond b Serve (cond (is_ctl texts) Control (alone_in texts)))) (sym other) does
+
+  pub does_alone : is_serve texts ≡ false → is_ctl texts ≡ false → DoesAlone (alone_in texts) answered before.ends after.ends before.log after.log → HostStays before after
+      → DoesSo (command_in texts)
+  does_alone unserving other does host = unserved unserving (subst Otherwise (sym other) (by_command (alone_in texts) does host))
+
+  pub does_control : is_serve texts ≡ false → is_ctl texts ≡ true → ControlledBy left sent counts texts answered before after → DoesSo (command_in texts)
+  does_control unserving is controls = unserved unserving (subst Otherwise (sym is) controls)
 
   pub does_serve : is_serve texts ≡ true → Serves core_visible core_faults core_fulls now visible faults fulls texts answered before after → DoesSo (command_in texts)
-  does_serve is serves = subst (λ (b : Bool). DoesSo (cond b Serve (alone_in texts))) (sym is) serves
-
-  pub serves : Served core_visible core_faults core_fulls now visible faults fulls texts answered before.host after.host
-      (out_end before.ends.held before.ends.write_faults) (out_end after.ends.held after.ends.write_faults) before.log after.log
-      → after.ends.left ≡ before.ends.left → after.ends.read_faults ≡ before.ends.read_faults → Serves core_visible core_faults core_fulls now visible faults fulls texts answered before after
-  serves s unread quiet = record {
-    exact = s;
-    unread = unread;
-    quiet = quiet;
-    ok = served_fine core_visible core_faults core_fulls now visible faults fulls texts answered before.host after.host
-        (out_end before.ends.held before.ends.write_faults) (out_end after.ends.held after.ends.write_faults) before.log after.log s;
-  }
+  does_serve is serves = subst (λ (b : Bool). DoesSo (cond b Serve (cond (is_ctl texts) Control (alone_in texts)))) (sym is) serves

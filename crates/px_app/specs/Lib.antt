@@ -24,4 +24,6 @@ pub mod Serves
 pub mod ServeCommand
 pub mod ServePlain
 pub mod Fine
+pub mod Outside
+pub mod Controlling
 pub mod Run

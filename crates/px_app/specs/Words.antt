@@ -1,37 +1,22 @@
 -- The words of the command line, and what they ask for.
-use Rattle.std.specs.Prelude.{ℕ, Bool, false, ◌+◌, ◌*◌, ◌-◌, ◌^◌, cond, ◌&&◌, nat_le, nat_lt, bytes_eq, List, [], ◌∷◌, Option, None, Some, unwrap_or, codes}
+use Rattle.std.specs.Prelude.{ℕ, Bool, false, cond, ◌&&◌, nat_le, bytes_eq, List, [], ◌∷◌, Option, None, Some, unwrap_or, codes}
+use Rattle.px_ctl.specs.Number.{number_in, in_64_bits}
+use Rattle.px_ctl.specs.Words.{is_ctl}
 use Rattle.px_app.specs.declared.words.Words.{Words}
 use Rattle.px_app.specs.declared.words.Words.TheVariants as words
 use Rattle.px_app.specs.View.{Shown, Records, Raw, Summary, shown_of}
 
--- ---- numbers
-
-abbrev pub is_digit : ℕ → Bool
-is_digit c = nat_le 0x30 c && nat_le c 0x39
-
--- the number of decimal digits that follow those read so far, whose number is the first argument
-abbrev pub digits_behind : ℕ → List ℕ → Option ℕ
-digits_behind n [] = Some n
-digits_behind n (c ∷ rest) = cond (is_digit c) (digits_behind (n * 10 + (c - 0x30)) rest) None
-
--- the number that a word writes: decimal digits alone, at least one
-abbrev pub number_in : List ℕ → Option ℕ
-number_in [] = None
-number_in (c ∷ rest) = digits_behind 0 (c ∷ rest)
-
-abbrev pub in_64_bits : Option ℕ → Option ℕ
-in_64_bits None = None
-in_64_bits (Some n) = cond (nat_lt n (2 ^ 64)) (Some n) None
-
 -- ---- commands
 
--- what the words ask for: a replay that shows this, a replay with monitors, a conversion, a session generated from a number and a count, or serving; none of these for other words
+-- what the words ask for: a replay that shows this, a replay with monitors, a conversion, a session generated from a number and a count, serving, or a
+-- control client; none of these for other words
 pub data Command : Type 0 where
   Replay : Shown → Command
   Monitor : Command
   Convert : Command
   Gen : ℕ → ℕ → Command
   Serve : Command
+  Control : Command
   Other : Command
 
 abbrev pub MOST_STEPS : ℕ
@@ -59,7 +44,7 @@ of_three first second third =
     cond (bytes_eq first (codes "replay") && bytes_eq second (codes "--raw")) (Some (Replay (Raw third)))
     (cond (bytes_eq first (codes "gen")) (gen_of (in_64_bits (number_in second)) (in_64_bits (number_in third))) None)
 
--- what words that don't begin with `serve` ask for, if they ask for anything
+-- what words that begin with neither `serve` nor `ctl` ask for, if they ask for anything
 abbrev pub meaning_in : List (List ℕ) → Option Command
 meaning_in [] = None
 meaning_in (a ∷ []) = of_one a
@@ -79,9 +64,9 @@ abbrev pub is_serve : List (List ℕ) → Bool
 is_serve [] = false
 is_serve (word ∷ words) = bytes_eq word (codes "serve")
 
--- what the words ask for, where they aren't those of `serve`
+-- what the words ask for, where they are those of neither `serve` nor `ctl`
 abbrev pub alone_in : List (List ℕ) → Command
 alone_in texts = unwrap_or (meaning_in texts) Other
 
 abbrev pub command_in : List (List ℕ) → Command
-command_in texts = cond (is_serve texts) Serve (alone_in texts)
+command_in texts = cond (is_serve texts) Serve (cond (is_ctl texts) Control (alone_in texts))

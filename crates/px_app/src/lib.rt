@@ -1,9 +1,10 @@
 //! The program's top call, `run`, and what it does by the words of the command line: `replay` plays a recorded session,
-//! `convert` writes it in the second form, `gen` makes one, `serve` serves live clients.
+//! `convert` writes it in the second form, `gen` makes one, `serve` serves live clients, `ctl` is a client of such a server.
 //! It exports these, `View`, `Ending`, the `Refusal`s of a session, `report`, which writes to a log how a run ended, and the
 //! laws on inputs and refusals.
 #![tactic(auto)]
 
+mod controlling;
 mod convert_stage;
 mod converting;
 mod ending;

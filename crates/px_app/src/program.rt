@@ -2,9 +2,11 @@
 
 ghost use Rattle.std.specs.Prelude.{◌≡◌, map, string_bytes};
 ghost use Rattle.px_app.specs.Ends.{Ends, ends_of, log_end};
-ghost use Rattle.px_app.specs.Run.{IsUsage, outside_of, DoesAlone, Does};
+ghost use Rattle.px_app.specs.Outside.{outside_of};
+ghost use Rattle.px_app.specs.Run.{IsUsage, DoesAlone, Does};
 ghost use Rattle.px_app.specs.Words.{alone_in, command_in};
 
+use crate::controlling::control_reported;
 use crate::converting::convert;
 use crate::ending::Ending;
 use crate::log::report;
@@ -13,6 +15,7 @@ use crate::monitoring::replay_monitor;
 use crate::replaying::replay;
 use crate::serving::{is_serve, serve_reported};
 use crate::words::{Words, meaning};
+use px_ctl::is_ctl;
 use px_ends::{Host, Sink, Source};
 use px_types::Status;
 use std::alloc::Global;
@@ -27,7 +30,7 @@ fn refuse_words<L: Sink>(alloc: Global, log: &mut L) -> Status
     report(alloc, Ending::Usage, log)
 }
 
-// Does what words other than those of `serve` ask for.
+// Does what words other than those of `serve` and `ctl` ask for.
 fn run_alone<S: Source, K: Sink, L: Sink>(
     alloc: Global,
     words: &[String],
@@ -55,7 +58,9 @@ fn run_alone<S: Source, K: Sink, L: Sink>(
 /// `replay --monitor` replays it in a world with monitors: see [`crate::replay_monitor`]. `convert` writes it in
 /// the second form: see [`crate::convert`]. `gen NUMBER COUNT` writes the session generated from a number of 64 bits and a count up to 1,000,000, both in decimal digits alone: see [`px_gen::generate`]. `serve` with
 /// its options serves live clients on the sinks of the header that the host reads, and waits for them: see [`serve_by`] and [`px_server::serve`];
-/// with `--tape` the output then gets a session of what was done. Other words are `Usage`, and then nothing is read, and only the log's line written.
+/// with `--tape` the output then gets a session of what was done. `ctl --socket PATH` and the words of an errand, `list`, `volume INPUT VALUE`,
+/// `mute INPUT on` or `off`, `sink-volume NAME VALUE`, `move INPUT NAME` or `kill INPUT`, do that errand at the server that listens at the socket, with
+/// the cookie in `input`, 256 bytes: see [`px_ctl::control`]. Other words are `Usage`, and then nothing is read, and only the log's line written.
 /// Where the log's line can't be written, the status is `WriteFault`.
 pub fn run<R, S, K, L, H>(
     rt: &R,
@@ -76,12 +81,14 @@ where
     H::D: 'static,
     H::R: 'static,
     H::C: 'static,
-    ensures { Does H.C.visible H.C.faults H.C.fulls H.D.now H.R.visible H.R.faults H.R.fulls (command_in (map string_bytes words.now)) (map string_bytes words.now) result
-        (outside_of (S.left input.old) (S.faults input.old) (K.held output.old) (K.faults output.old) (L.held log.old) (L.faults log.old) (H.now host.old))
-        (outside_of (S.left input.new) (S.faults input.new) (K.held output.new) (K.faults output.new) (L.held log.new) (L.faults log.new) (H.now host.new)) }
+    ensures { Does H.C.visible H.C.faults H.C.fulls H.D.now H.R.visible H.R.faults H.R.fulls H.L.left H.L.sent H.L.counts (command_in (map string_bytes words.now)) (map string_bytes words.now) result
+        (outside_of (S.left input.old) (S.faults input.old) (K.held output.old) (K.faults output.old) (L.held log.old) (L.faults log.old) (H.now host.old) (H.dialled host.old))
+        (outside_of (S.left input.new) (S.faults input.new) (K.held output.new) (K.faults output.new) (L.held log.new) (L.faults log.new) (H.now host.new) (H.dialled host.new)) }
 {
     if is_serve(words) {
         serve_reported(rt, rt.alloc(), words, output, log, host)
+    } else if is_ctl(words) {
+        control_reported(rt.alloc(), words, input, output, log, host)
     } else {
         run_alone(rt.alloc(), words, input, output, log)
     }

@@ -70,9 +70,10 @@ where
     H::D: 'static,
     H::R: 'static,
     H::C: 'static,
-    ensures { Served H.C.visible H.C.faults H.C.fulls H.D.now H.R.visible H.R.faults H.R.fulls (map string_bytes words.now) result (H.now host.old) (H.now host.new)
+    ensures served { Served H.C.visible H.C.faults H.C.fulls H.D.now H.R.visible H.R.faults H.R.fulls (map string_bytes words.now) result (H.now host.old) (H.now host.new)
         (out_end (K.held output.old) (K.faults output.old)) (out_end (K.held output.new) (K.faults output.new))
         (log_end (L.held log.old) (L.faults log.old)) (log_end (L.held log.new) (L.faults log.new)) }
+    ensures dialled { H.dialled host.new ≡ H.dialled host.old }
 {
     match serve_by(rt, alloc, words, output, host) {
         ServeEnd::Usage => report(alloc, Ending::Usage, log),

@@ -1,9 +1,10 @@
 //! What the words of the command line mean.
 
 ghost use Rattle.std.specs.Prelude.{◌≡◌, map, option_map, string_bytes};
-ghost use Rattle.px_app.specs.Words.{number_in, in_64_bits, gen_of, of_one, of_two, of_three, meaning_in, meaning_of};
+ghost use Rattle.px_app.specs.Words.{gen_of, of_one, of_two, of_three, meaning_in, meaning_of};
 
 use crate::view::View;
+use px_ctl::number;
 
 /// The greatest count of steps of a generated session.
 const MOST_STEPS: u64 = 1_000_000;
@@ -19,29 +20,6 @@ pub(crate) enum Words<'a> {
     Convert,
     /// A session is generated.
     Gen { number: u64, count: u32 },
-}
-
-// The number of 64 bits that a word of decimal digits, at least one, writes.
-fn number(word: &[u8]) -> Option<u64>
-    ensures { result ≡ in_64_bits (number_in word.now) }
-{
-    if word.is_empty() {
-        return None;
-    }
-    let mut n: u64 = 0;
-    for c in word {
-        if *c < b'0' || *c > b'9' {
-            return None;
-        }
-        let Some(tens) = n.checked_mul(10) else {
-            return None;
-        };
-        let Some(next) = tens.checked_add(u64::from(*c - b'0')) else {
-            return None;
-        };
-        n = next;
-    }
-    Some(n)
 }
 
 fn one(word: &str) -> Option<Words<'_>>

@@ -4,7 +4,7 @@ use px_types::InputId;
 
 /// A stream with its index as a sink input.
 #[derive(Debug, Drop)]
-pub(crate) struct Input {
+pub struct Input {
     pub index: InputId,
     pub stream: Stream,
 }

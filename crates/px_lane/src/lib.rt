@@ -2,7 +2,7 @@
 //! from then on nothing can fail but the device. `lane` has the turn over a device, `mixer` the sink without it, `buffer` its bytes, `mixed` the
 //! inputs with the kept sums of their mix, `taking` the messages to them, `setting` their factors, `adding` the frames that come, `inputs` the list
 //! of inputs, `lists` what a turn takes and gives, `rows` what some turns cost. It exports `Lane` with `Turned` and `LaneFault`, `MsgList` and
-//! `NoticeList`, and the law `turns_cost_this`.
+//! `NoticeList`, the law `turns_cost_this`, and what a lane is made of: `SinkMixer` with `Input` and `Prepared`.
 #![tactic(auto)]
 
 mod adding;
@@ -21,6 +21,9 @@ mod rows;
 mod setting;
 mod taking;
 
+pub use input::Input;
 pub use lane::{Lane, LaneFault, Turned};
 pub use lists::{MsgList, NoticeList};
+pub use mixer::SinkMixer;
+pub use prepared::Prepared;
 pub use rows::turns_cost_this;

@@ -202,7 +202,7 @@ impl MsgList {
     }
 
     /// Takes back the list whose messages a turn has applied, for its room. Takes no memory.
-    pub(crate) fn give_back(&mut self, prepared: Prepared)
+    pub fn give_back(&mut self, prepared: Prepared)
         requires taken { prepared.messages ≡ [] }
         requires empty { self.old.messages ≡ [] }
         ensures messages { self.new.messages ≡ [] }

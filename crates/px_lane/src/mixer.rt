@@ -8,6 +8,7 @@ ghost use Rattle.px_lane.specs.Mixing.{RoomySink, IsMixed, given_up};
 ghost use Rattle.px_stream.specs.Samples.{samples};
 ghost use Rattle.px_lane.specs.Mixed.{CanMixAll};
 ghost use Rattle.px_lane.specs.Taking.{CanTakeAll};
+ghost use Rattle.px_lane.specs.Inputs.{inputs_of};
 ghost use Rattle.px_lane.specs.Lane.{IsLane};
 ghost use Rattle.px_lane.specs.Costs.{costs_of, mix_cost, turn_cost};
 ghost use Rattle.px_lane.specs.Needed.{needed, blocks_of, Opens};
@@ -15,6 +16,7 @@ ghost use Rattle.px_lane.specs.Whole.{AreFramesOf};
 ghost use Rattle.px_model.specs.Frame.{frame_size};
 
 use crate::buffer::Buffer;
+use crate::input::Input;
 use crate::mixed::MixedInputs;
 use crate::prepared::Prepared;
 use crate::{MsgList, NoticeList};
@@ -30,7 +32,7 @@ use std::sync::ledger::Ledger;
 /// What a sink mixes: its counts, its buffer and its inputs (PulseAudio: `thread_info` of pulsecore/sink.h). The buffer's bytes begin at the first
 /// frame that isn't consumed, as many as the depth has room for.
 #[derive(Debug, Drop)]
-pub(crate) struct SinkMixer {
+pub struct SinkMixer {
     spec: Spec,
     guard: u32,
     depth: u32,
@@ -68,7 +70,7 @@ impl Model for SinkMixer {
 
 impl SinkMixer {
     /// A mixer that has mixed nothing, with no inputs. Takes the memory of its buffer.
-    pub(crate) fn new(alloc: Global, sink: &SinkSpec) -> Mem<SinkMixer>
+    pub fn new(alloc: Global, sink: &SinkSpec) -> Mem<SinkMixer>
         requires mixed { IsMixed sink.now.spec }
         requires low_depth { sink.now.depth ≤ 65536 }
         ensures sink { IfOk result (λ m. m.sink ≡ empty_sink (sample_spec sink.now.spec) sink.now.guard sink.now.depth) }
@@ -90,36 +92,43 @@ impl SinkMixer {
     }
 
     /// Frames consumed so far.
-    pub(crate) fn consumed(&self) -> u64
+    pub fn consumed(&self) -> u64
         ensures { result ≡ self.now.sink.consumed }
     {
         self.consumed
     }
 
     /// Frames mixed so far.
-    pub(crate) fn filled(&self) -> u64
+    pub fn filled(&self) -> u64
         ensures { result ≡ self.now.sink.filled }
     {
         self.filled
     }
 
     /// The first frame that may still change.
-    pub(crate) fn horizon(&self) -> u64
+    pub fn horizon(&self) -> u64
         ensures { result ≡ self.now.sink.horizon }
     {
         self.horizon
     }
 
     /// Whether it has stopped, and mixes no more.
-    pub(crate) fn is_stopped(&self) -> bool
+    pub fn is_stopped(&self) -> bool
         ensures { result ≡ self.now.sink.stopped }
     {
         self.stopped
     }
 
+    /// The inputs, sorted by index, each with its stream as it stands at the horizon.
+    pub fn inputs(&self) -> &[Input]
+        ensures { inputs_of result.now ≡ self.now.sink.inputs }
+    {
+        self.inputs.inputs.as_slice()
+    }
+
     /// Takes all the memory of a turn with these messages. The list is empty then. Without memory the sink, the messages and the notices
     /// stay what they are.
-    pub(crate) fn prepare(
+    pub fn prepare(
         &mut self,
         alloc: Global,
         messages: &mut MsgList,
@@ -254,7 +263,7 @@ impl SinkMixer {
     }
 
     /// The bytes of the frames from `stay` past the horizon on, once they are mixed up to the depth.
-    pub(crate) fn fresh(&self, stay: u64) -> &[u8]
+    pub fn fresh(&self, stay: u64) -> &[u8]
         requires full { self.now.sink.filled ≡ self.now.sink.consumed + self.now.sink.depth }
         requires within { stay ≤ self.now.sink.filled - self.now.sink.horizon }
         ensures { result.now ≡ concat (drop ((self.now.sink.horizon - self.now.sink.consumed) + stay) self.now.sink.buffer) }
@@ -266,7 +275,7 @@ impl SinkMixer {
     /// A turn whose sync consumed `frames` frames: these leave the buffer and the streams go forward, the messages are applied, all frames from the
     /// horizon on are mixed afresh, and the streams ask for more. Answers how many frames past the horizon stay what they were. Takes no memory.
     /// (PulseAudio: `pa_sink_render` and `pa_sink_process_rewind` of pulsecore/sink.c.)
-    pub(crate) fn play<T: Ledger, B: BlockSource>(
+    pub fn play<T: Ledger, B: BlockSource>(
         &mut self,
         frames: u64,
         messages: &mut Prepared,
@@ -304,7 +313,7 @@ impl SinkMixer {
 
     /// A turn whose sync failed, and each after it: the streams go forward to the horizon, all frames past it are dropped, the messages are applied,
     /// and the streams ask for more. Takes no memory. (Own: a PulseAudio sink is unlinked.)
-    pub(crate) fn stop<T: Ledger, B: BlockSource>(
+    pub fn stop<T: Ledger, B: BlockSource>(
         &mut self,
         messages: &mut Prepared,
         out: &mut NoticeList,

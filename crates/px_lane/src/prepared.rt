@@ -1,6 +1,7 @@
 // The messages of a turn, with all the memory that they need.
-ghost use Rattle.std.specs.Prelude.{ℕ, ◌≡◌, ◌≤◌, ◌+◌, ◌-◌, ◌++◌, ◌∷◌, [], List, length, map, take, drop, flat_map, MatchOption, IfOk, OnOk, OnErr};
+ghost use Rattle.std.specs.Prelude.{ℕ, ◌≡◌, ◌≤◌, ◌+◌, ◌-◌, ◌++◌, ◌∷◌, [], List, length, map, take, drop, flat_map, MatchOption, IfOk, OnOk, OnErr, slice_get};
 ghost use Rattle.std.specs.List.{AllByRecursion, sum_by};
+ghost use Rattle.std.specs.Option.{option_map};
 ghost use Rattle.std.specs.VecDeque.{deque_capacity};
 ghost use Rattle.px_model.specs.Frame.{SampleSpec};
 ghost use Rattle.px_model.specs.Stream.{Stream as Plain};
@@ -21,7 +22,7 @@ use std::marker::Model;
 
 /// The messages of a turn, in order, with all the memory that they need.
 #[derive(Debug, Drop)]
-pub(crate) struct Prepared {
+pub struct Prepared {
     items: VecDeque<Msg<Stream>>,
     // the stream of each new input, in order
     streams: VecDeque<Stream>,
@@ -76,6 +77,13 @@ impl Prepared {
         ensures capacity { deque_capacity result ≡ self.capacity }
     {
         VecDeque::from_vec(self.items.into_vec())
+    }
+
+    /// The message at place `at`, from 0; `None` exactly where there are at most `at` messages.
+    pub fn get(&self, at: usize) -> Option<&Msg<Stream>>
+        ensures { option_map (λ message. plain_message message.now) result ≡ slice_get self.now.messages at }
+    {
+        self.items.get(at)
     }
 
     /// Takes the first message. Takes no memory.

@@ -78,8 +78,9 @@ where
     H::R: 'static,
     H::C: 'static,
     requires { IsHeader header.now }
-    ensures { IsServing H.C.visible H.C.faults H.C.fulls H.D.now H.R.visible H.R.faults H.R.fulls header.now taped (H.now host.old) (H.now host.new)
+    ensures serves { IsServing H.C.visible H.C.faults H.C.fulls H.D.now H.R.visible H.R.faults H.R.fulls header.now taped (H.now host.old) (H.now host.new)
         (out_end (K.held output.old) (K.faults output.old)) (out_end (K.held output.new) (K.faults output.new)) result }
+    ensures dialled { H.dialled host.new ≡ H.dialled host.old }
 {
     let Served {
         status,
@@ -111,8 +112,9 @@ where
     H::D: 'static,
     H::R: 'static,
     H::C: 'static,
-    ensures { ServesWith H.C.visible H.C.faults H.C.fulls H.D.now H.R.visible H.R.faults H.R.fulls said.now result (H.now host.old) (H.now host.new)
+    ensures serves { ServesWith H.C.visible H.C.faults H.C.fulls H.D.now H.R.visible H.R.faults H.R.fulls said.now result (H.now host.old) (H.now host.new)
         (out_end (K.held output.old) (K.faults output.old)) (out_end (K.held output.new) (K.faults output.new)) }
+    ensures dialled { H.dialled host.new ≡ H.dialled host.old }
 {
     let bytes = match host.start(alloc, &said.options) {
         HeaderRead::Bytes(bytes) => bytes,
@@ -149,8 +151,9 @@ where
     H::D: 'static,
     H::R: 'static,
     H::C: 'static,
-    ensures { ServesBy H.C.visible H.C.faults H.C.fulls H.D.now H.R.visible H.R.faults H.R.fulls (map string_bytes words.now) result (H.now host.old) (H.now host.new)
+    ensures serves { ServesBy H.C.visible H.C.faults H.C.fulls H.D.now H.R.visible H.R.faults H.R.fulls (map string_bytes words.now) result (H.now host.old) (H.now host.new)
         (out_end (K.held output.old) (K.faults output.old)) (out_end (K.held output.new) (K.faults output.new)) }
+    ensures dialled { H.dialled host.new ≡ H.dialled host.old }
 {
     let said = match read_serve_words(alloc, words) {
         Ok(said) => said,

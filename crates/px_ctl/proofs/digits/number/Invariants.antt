@@ -1,6 +1,6 @@
 use Rattle.std.proofs.Common.{◌≡◌, ◌<◌, ◌^◌, drop}
-use Rattle.px_app.specs.Words.{number_in, digits_behind}
-use Rattle.px_app.proofs.words.number.Given as goal
+use Rattle.px_ctl.specs.Number.{number_in, digits_behind}
+use Rattle.px_ctl.proofs.digits.number.Given as goal
 
 -- the digits so far gave the number, and those to come go on with it
 abbrev pub invariant-loop-c : goal.invariant-loop-c

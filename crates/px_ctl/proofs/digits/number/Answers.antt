@@ -1,9 +1,9 @@
 use Rattle.std.proofs.Common.{◌≡◌, suc, ◌+◌, ◌-◌, ◌*◌, ◌^◌, drop, get_or, rules, sym, ap, ◌∙◌, arith}
 use Rattle.std.proofs.lemmas.List.{drop_all}
-use Rattle.px_app.specs.Words.{in_64_bits, digits_behind}
-use Rattle.px_app.proofs.WordLaws.{digit_below, digit_above, digit_more, not_below, past_64_bits, within_64_bits}
-use Rattle.px_app.proofs.words.number.Goals as goal
-use Rattle.px_app.proofs.words.number.Goals.{then-c-lt48-via-then-c-lt48, then-c-lt48-via-else-c-lt48+then-c-gt57}
+use Rattle.px_ctl.specs.Number.{in_64_bits, digits_behind}
+use Rattle.px_ctl.proofs.NumberLaws.{digit_below, digit_above, digit_more, not_below, past_64_bits, within_64_bits}
+use Rattle.px_ctl.proofs.digits.number.Goals as goal
+use Rattle.px_ctl.proofs.digits.number.Goals.{then-c-lt48-via-then-c-lt48, then-c-lt48-via-else-c-lt48+then-c-gt57}
 
 pub returns-then-c-lt48 : goal.returns-then-c-lt48
 returns-then-c-lt48 c = elim c.then-c-lt48.branch [

@@ -1,0 +1,4 @@
+pub mod Number
+pub mod Words
+pub mod End
+pub mod Control
