@@ -1,5 +1,5 @@
 #!/usr/bin/env python3
-"""The documents, held against the repository: README.md, HACKING.md, CHANGELOG.md and docs/*.md.
+"""The documents, held against the repository: README.md, HACKING.md, CHANGELOG.md, conformance/README.md and docs/*.md.
 
   tools/docs.py [FILE..]        each fault of them in a line: the file, the line and the cause
   tools/docs.py --count         how many bytes each document has, and how many faults of each kind
@@ -8,7 +8,7 @@ A fault is a line over 160 characters outside of tables and code, a link to noth
 a crate, a file or a function that isn't there. Names are looked at in backticks, and paths below docs/, tools/, conformance/, examples/, crates/, package/ and man/ wherever they stand. A crate is `px_world`, a
 file `px_world/src/event.rt`, `src/event.rt` (of a crate that the paragraph names, or of any), `event.rt` or `docs/SERVING.md`, a function `px_app::run`,
 `World::event` or `event.rt: event`. A name with an underscore or with two capitals, as `worked_rows` or `IsPlayed`, must stand somewhere in the sources. A word of
-capitals alone in a path, as in `crates/NAME/src`, stands for a name."""
+capitals alone in a path or a name, as in `crates/NAME/src` and `dice_N`, stands for another."""
 
 import os
 import re
@@ -34,6 +34,7 @@ NUMBERED = re.compile(r"- \*\*(\d+)\*\* ")
 STANDS_FOR = re.compile(r"[A-Z]+")
 SOURCES = (".rt", ".antt", ".py", ".sh", ".c", ".txt", "")
 FOREIGN = re.compile(r"pa_\w+|max_rewind|real_volume|HashMap")  # names of PulseAudio's code, and of Rust's library
+FOREIGN_FILES = ("protocol-native.c", "tagstruct.c")
 
 
 class Sources:
@@ -100,7 +101,7 @@ def name_fault(sources, name, beside):
     if file:
         path, function = file.groups()
         found = sources.files_of(path, beside)
-        if not found and not is_placeholder(path):
+        if not found and not is_placeholder(path) and path not in FOREIGN_FILES:
             return "file", f"there is no file {path}"
         if function and found and not any(re.search(rf"\b{function}\b", read(os.path.join(sources.top, it))) for it in found):
             return "name", f"{path} has no {function}"
@@ -112,7 +113,7 @@ def name_fault(sources, name, beside):
             return "name", f"no crate has {front}::{back}"
     elif PLAIN.fullmatch(name) and not FOREIGN.fullmatch(name):
         bare = name.split("(")[0]
-        if bare not in sources.words:
+        if bare not in sources.words and not any(STANDS_FOR.fullmatch(part) for part in bare.split("_")):
             return "name", f"{bare} stands nowhere in the sources"
     return None
 
@@ -203,7 +204,7 @@ def faults_of(sources, path, text):
 
 def documents(sources):
     """The documents that are looked at."""
-    heads = [name for name in ("README.md", "HACKING.md", "CHANGELOG.md") if name in sources.paths]
+    heads = [name for name in ("README.md", "HACKING.md", "CHANGELOG.md", "conformance/README.md") if name in sources.paths]
     return heads + sorted(path for path in sources.paths if re.fullmatch(r"docs/[\w.-]+\.md", path))
 
 

@@ -56,7 +56,7 @@ class Documents(unittest.TestCase):
         gone = "`px_low/src/make.rt`\n`src/gone.rt`\n`Gone.antt`\ndocs/GONE.md.\n\n    tools/gone.py a | tools/header.py\n"
         wanted = ["1: there is no file px_low/src/make.rt", "2: there is no file src/gone.rt", "3: there is no file Gone.antt"]
         self.assertEqual(self.faults(gone), wanted + ["4: there is no file docs/GONE.md", "6: there is no file tools/gone.py"])
-        self.assertEqual(self.faults("`proofs/MODULE/FUNCTION/Answers.antt` and docs/*.md"), [])
+        self.assertEqual(self.faults("`proofs/MODULE/FUNCTION/Answers.antt` and docs/*.md, `dice_N`, `protocol-native.c`"), [])
 
     def test_functions(self):
         self.assertEqual(self.faults("`px_low::Low` `px_low::feed` `px_top::make_it` `Low::feed` `make.rt: make_it` `indexmap::new` `pa_sink_render`"), [])
