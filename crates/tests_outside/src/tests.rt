@@ -1,3 +1,4 @@
+mod control;
 mod dialling;
 mod host;
 mod late;

@@ -1,3 +1,4 @@
+mod control;
 mod gates;
 mod histories;
 mod hosts;
