@@ -191,7 +191,12 @@ fn make(parts: &mut Parts, alloc: Global, conn: ConnId, piece: Piece) -> Mem<Eff
     ensures sieve { parts.new.sieve ≡ parts.old.sieve }
 {
     match piece {
-        Piece::Pass(bytes) => {
+        Piece::Broken(bytes) => {
+            let effects = pass_on(parts, alloc, conn, bytes)?;
+            Ok(effects)
+        }
+        Piece::Pass(frame) => {
+            let bytes = spelled(alloc, &frame.body)?;
             let effects = pass_on(parts, alloc, conn, bytes)?;
             Ok(effects)
         }

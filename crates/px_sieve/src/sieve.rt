@@ -22,7 +22,6 @@ use std::marker::Model;
 /// handed out.
 #[derive(Drop)]
 pub struct Sieve {
-    alloc: Global,
     own: Vec<u32>,
     lines: Vec<Line>,
     asked: Option<ConnId>,
@@ -177,7 +176,6 @@ impl Sieve {
         ensures { IfOk result (λ sieve. StandsFor sieve (new_sieve own.now)) }
     {
         Ok(Sieve {
-            alloc,
             own: Vec::from_slice(alloc, own)?,
             lines: Vec::new(alloc),
             asked: None,
@@ -203,8 +201,7 @@ impl Sieve {
             None => Ok(None),
             Some((segment, let_in)) => {
                 self.asked = asked_by(self.own.as_slice(), conn, let_in, &segment);
-                let piece = sort(self.alloc, self.own.as_slice(), let_in, segment)?;
-                Ok(Some(piece))
+                Ok(Some(sort(self.own.as_slice(), let_in, segment)))
             }
         }
     }
