@@ -13,6 +13,6 @@ mod sieve;
 
 pub use law::scenes_join;
 pub use piece::Piece;
+pub use px_world::spelled;
 pub use shift::{Shift, shifted};
 pub use sieve::Sieve;
-pub use px_world::spelled;
