@@ -6,7 +6,7 @@ use Rattle.px_types.specs.declared.ids.ConnId.{ConnId}
 use Rattle.px_state.specs.declared.effect.Effect.{Effect}
 use Rattle.px_sieve.specs.declared.segment.Segment.{Segment}
 use Rattle.px_sieve.specs.declared.piece.Piece.{Piece}
-use Rattle.px_sieve.specs.declared.piece.Piece.TheVariants.{Pass, Own, Write}
+use Rattle.px_sieve.specs.declared.piece.Piece.TheVariants.{Pass, Broken, Own, Write}
 use Rattle.px_sieve.specs.Sieve.{Heard, is_of, heard_of, changed, first_taken, first_of, piece_from, asked_from, next, seen}
 use Rattle.px_sieve.specs.Scene.{shown_by}
 use Rattle.px_sieve.proofs.Scenes.{shown-join}
@@ -28,7 +28,8 @@ goes-first conn parts start stands = record { now = start; stands = stands; show
 -- ---- one more piece
 
 pub handled-sieve : (m : Monitor) (conn : ConnId) (piece : Piece) → (handled_in m conn piece).sieve ≡ m.sieve
-handled-sieve m conn (Pass bytes) = refl
+handled-sieve m conn (Pass frame) = refl
+handled-sieve m conn (Broken bytes) = refl
 handled-sieve m conn (Write frame) = refl
 handled-sieve m conn (Own frame) = refl
 

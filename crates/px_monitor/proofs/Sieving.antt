@@ -12,7 +12,7 @@ use Rattle.px_world.specs.Event.{with_bytes}
 use Rattle.px_world.specs.Output.{world_by, AreAdmitted}
 use Rattle.px_sieve.specs.declared.segment.Segment.{Segment}
 use Rattle.px_sieve.specs.declared.piece.Piece.{Piece}
-use Rattle.px_sieve.specs.declared.piece.Piece.TheVariants.{Pass, Own, Write}
+use Rattle.px_sieve.specs.declared.piece.Piece.TheVariants.{Pass, Broken, Own, Write}
 use Rattle.px_sieve.specs.declared.shift.Shift.{Shift}
 use Rattle.px_sieve.specs.declared.shift.Shift.TheVariants.{Faulted}
 use Rattle.px_sieve.specs.Scene.{Item, Inner, inner, shown_by}
@@ -25,7 +25,8 @@ use Rattle.px_monitor.specs.Run.{monitor_by, AreMonitored, items_by, effects_sho
 -- ---- the world
 
 pub handled-world : (m : Monitor) (conn : ConnId) (piece : Piece) → (handled_in m conn piece).world ≡ m.world
-handled-world m conn (Pass bytes) = refl
+handled-world m conn (Pass frame) = refl
+handled-world m conn (Broken bytes) = refl
 handled-world m conn (Write frame) = refl
 handled-world m conn (Own frame) = refl
 
@@ -102,7 +103,8 @@ answer-admits w conn at (Packet packet) named = record { admitted = tt; named = 
 answer-admits w conn at (Fault fault) named = one-admits w conn zero_length (Faulted conn (fault_code fault) (offset_behind at (fault_place fault))) named
 
 piece-admits : (m : Monitor) (conn : ConnId) (piece : Piece) → IsNamed m.world conn → AdmitsBytes m.world conn (piece_items m conn piece)
-piece-admits m conn (Pass bytes) named = one-admits m.world conn bytes (shift_by conn (skipped_of conn m.skips)) named
+piece-admits m conn (Pass frame) named = one-admits m.world conn (spelling_of frame.body) (shift_by conn (skipped_of conn m.skips)) named
+piece-admits m conn (Broken bytes) named = one-admits m.world conn bytes (shift_by conn (skipped_of conn m.skips)) named
 piece-admits m conn (Write frame) named = one-admits m.world conn (spelling_of frame.body) (shift_by conn (skipped_of conn m.skips)) named
 piece-admits m conn (Own frame) named = answer-admits m.world conn frame.at (answered m conn frame).1 named
 

@@ -28,7 +28,7 @@ use Rattle.px_reply.specs.Front.{reply_to}
 use Rattle.px_sinks.specs.Sinks.{targets_from, MOST_SINKS}
 use Rattle.px_sieve.specs.declared.segment.Segment.{Segment}
 use Rattle.px_sieve.specs.declared.piece.Piece.{Piece}
-use Rattle.px_sieve.specs.declared.piece.Piece.TheVariants.{Pass, Own, Write}
+use Rattle.px_sieve.specs.declared.piece.Piece.TheVariants.{Pass, Broken, Own, Write}
 use Rattle.px_sieve.specs.Scene.{shown_by}
 use Rattle.px_monitor.specs.declared.fields.RecordFields.{RecordFields}
 use Rattle.px_monitor.specs.declared.command.Request.{Request}
@@ -162,7 +162,8 @@ seen-sized (Sent conn packet ∷ effects) records s = seen-sized effects records
 seen-sized (Closed conn reason fault at ∷ effects) records s = seen-sized effects (without_conn conn records) (without-sized conn records s)
 
 handled-in-sized : (m : Monitor) (conn : ConnId) (piece : Piece) → Sized m.records → Sized (handled_in m conn piece).records
-handled-in-sized m conn (Pass bytes) s = s
+handled-in-sized m conn (Pass frame) s = s
+handled-in-sized m conn (Broken bytes) s = s
 handled-in-sized m conn (Write frame) s = s
 handled-in-sized m conn (Own frame) s = head-sized (version_on m conn) conn m.records (head_at (start_of (packet_of frame.body))) s
 

@@ -23,7 +23,7 @@ use Rattle.px_world.specs.Event.{frames_played}
 use Rattle.px_world.specs.Output.{world_by}
 use Rattle.px_sieve.specs.declared.segment.Segment.{Segment}
 use Rattle.px_sieve.specs.declared.piece.Piece.{Piece}
-use Rattle.px_sieve.specs.declared.piece.Piece.TheVariants.{Pass, Own, Write}
+use Rattle.px_sieve.specs.declared.piece.Piece.TheVariants.{Pass, Broken, Own, Write}
 use Rattle.px_sieve.specs.Piece.{sorted}
 use Rattle.px_sieve.specs.Sieve.{Heard, Sieve, new_sieve, heard_of, pass, after_next, seen, forget}
 use Rattle.px_sieve.specs.declared.shift.Shift.{Shift}
@@ -132,13 +132,15 @@ answer_items conn at (Packet packet) = Reply (sending conn packet) ∷ []
 answer_items conn at (Fault fault) = Inner (Bytes conn zero_length) (Faulted conn (fault_code fault) (offset_behind at (fault_place fault))) ∷ []
 
 abbrev pub piece_items : Monitor → ConnId → Piece → List Item
-piece_items m conn (Pass bytes) = passed_on m conn bytes ∷ []
+piece_items m conn (Pass frame) = passed_on m conn (spelling_of frame.body) ∷ []
+piece_items m conn (Broken bytes) = passed_on m conn bytes ∷ []
 piece_items m conn (Write frame) = passed_on m conn (spelling_of frame.body) ∷ []
 piece_items m conn (Own frame) = answer_items conn frame.at (answered m conn frame).1
 
 -- an own command changes the table of record streams, and the world doesn't get its bytes
 abbrev pub handled_in : Monitor → ConnId → Piece → Monitor
-handled_in m conn (Pass bytes) = m
+handled_in m conn (Pass frame) = m
+handled_in m conn (Broken bytes) = m
 handled_in m conn (Write frame) = m
 handled_in m conn (Own frame) = record m { skips = with_skip conn (20 + length (packet_of frame.body)) m.skips; records = (answered m conn frame).0 }
 

@@ -18,7 +18,7 @@ use px_header::Header;
 use px_session::Event;
 use px_sieve::Sieve;
 use px_state::Effects;
-use px_types::{ConnId, Mem, SinkId};
+use px_types::{ConnId, Mem, SinkId, Text};
 use px_world::{Outcome, World, WorldFault};
 use std::alloc::Global;
 use std::marker::Model;
@@ -106,15 +106,16 @@ fn heard(
     parts: &mut Parts,
     alloc: Global,
     conn: ConnId,
-    bytes: &[u8],
+    text: Text,
 ) -> Result<MonitorOutcome, WorldFault>
-    ensures done { (m : Monitor) → StandsForMonitor parts.old m → Answered result (HasDone parts.new m (Bytes conn bytes.now)) (λ fault. monitor_refusal m (Bytes conn bytes.now) ≡ Some fault) }
+    ensures done { (m : Monitor) → StandsForMonitor parts.old m → Answered result (HasDone parts.new m (Bytes conn text)) (λ fault. monitor_refusal m (Bytes conn text) ≡ Some fault) }
     ensures stays { Answered result (λ _. Unit {0}) (λ _. parts.new ≡ parts.old) }
 {
     if !parts.world.is_named(conn) {
         return Err(WorldFault::NotLive);
     }
-    let effects = hear(parts, alloc, conn, bytes)?;
+    let effects = hear(parts, alloc, conn, text.as_slice())?;
+    parts.world.reclaim_text(text);
     Ok(MonitorOutcome {
         effects,
         played: Played::from_vec(Vec::new(alloc)),
@@ -167,7 +168,7 @@ fn run(parts: &mut Parts, alloc: Global, e: Event) -> Result<MonitorOutcome, Wor
 {
     match e {
         Event::Connect(conn) => other(parts, alloc, Event::Connect(conn)),
-        Event::Bytes(conn, bytes) => heard(parts, alloc, conn, bytes.as_slice()),
+        Event::Bytes(conn, text) => heard(parts, alloc, conn, text),
         Event::Close(conn) => closed(parts, alloc, conn),
         Event::Cut(conn) => other(parts, alloc, Event::Cut(conn)),
         Event::Turn { sink, frames, take } => turned(parts, alloc, sink, frames, take),
@@ -214,5 +215,13 @@ impl MonitorWorld {
                 Err(fault)
             }
         }
+    }
+
+    /// Takes the text of the last event that had bytes, which are done with, to be filled again. `None` where there was no such event since the last
+    /// call. Takes no memory.
+    pub fn used_text(&mut self) -> Option<Text>
+        ensures { self.new ≡ self.old }
+    {
+        self.parts.world.used_text()
     }
 }

@@ -1,6 +1,8 @@
 //! The parts of a world with monitors, and what they do with the bytes of connections.
 
 ghost use Rattle.std.specs.Prelude.{◌≡◌, [], ◌∷◌, IfOk, OnOk};
+ghost use Rattle.px_frame.specs.Frame.{IsBody};
+ghost use Rattle.px_frame.specs.Spelling.{spelling_of};
 ghost use Rattle.px_session.specs.declared.event.Event.TheVariants.{Bytes};
 ghost use Rattle.px_state.specs.Effect.{fault_code, fault_place, sending};
 ghost use Rattle.px_world.specs.World.{World as SpecWorld};
@@ -17,7 +19,7 @@ use crate::recorded::Recorded;
 use crate::skips::{Skip, skip_more, skipped_of};
 use px_frame::{Body, Frame};
 use px_session::Event;
-use px_sieve::{Piece, Shift, Sieve, shifted, spelled};
+use px_sieve::{Piece, Shift, Sieve, shifted};
 use px_state::{Effect, Effects};
 use px_tag::TagFault;
 use px_types::limits::{LEAST_PROTOCOL_VERSION, MAX_PAYLOAD};
@@ -92,6 +94,27 @@ fn give(world: &mut World, alloc: Global, conn: ConnId, bytes: Text, shift: Shif
     }
 }
 
+// The world gets a frame of a connection.
+fn give_frame(
+    world: &mut World,
+    alloc: Global,
+    conn: ConnId,
+    frame: Frame,
+    shift: Shift,
+) -> Mem<Effects>
+    requires { IsBody frame.body }
+    ensures effects { IfOk result (λ effects. (w : SpecWorld) → WorldStands world.old w → effects ≡ shifted shift (effects_after w (Bytes conn (spelling_of frame.body)))) }
+    ensures after { OnOk result ((w : SpecWorld) → WorldStands world.old w → WorldStands world.new (world_after w (Bytes conn (spelling_of frame.body)))) }
+{
+    match world.frame(alloc, conn, frame) {
+        Ok(outcome) => {
+            let shown = shifted(alloc, shift, outcome.effects)?;
+            Ok(shown)
+        }
+        Err(_) => Err(NoMemory),
+    }
+}
+
 // Sends a packet, where a frame can carry it.
 fn reply(alloc: Global, conn: ConnId, packet: &[u8]) -> Mem<Effects>
     ensures { IfOk result (λ effects. effects ≡ sending conn packet.now) }
@@ -158,6 +181,18 @@ fn pass_on(parts: &mut Parts, alloc: Global, conn: ConnId, bytes: Text) -> Mem<E
     Ok(effects)
 }
 
+// A frame is passed on to the world.
+fn pass_frame(parts: &mut Parts, alloc: Global, conn: ConnId, frame: Frame) -> Mem<Effects>
+    requires { IsBody frame.body }
+    ensures effects { IfOk result (λ effects. (m : Monitor) → StandsForMonitor parts.old m → effects ≡ shown_by m.world (passed_on m conn (spelling_of frame.body) ∷ [])) }
+    ensures after { OnOk result ((m : Monitor) → StandsForMonitor parts.old m → StandsForMonitor parts.new (running_on m (passed_on m conn (spelling_of frame.body) ∷ []))) }
+    ensures sieve { parts.new.sieve ≡ parts.old.sieve }
+{
+    let shift = shift_by(conn, skipped_of(parts.skips.as_slice(), conn));
+    let effects = give_frame(&mut parts.world, alloc, conn, frame, shift)?;
+    Ok(effects)
+}
+
 // A command of the mode's own is handled.
 fn handle(parts: &mut Parts, alloc: Global, conn: ConnId, frame: &Frame) -> Mem<Effects>
     ensures effects { IfOk result (λ effects. (m : Monitor) → StandsForMonitor parts.old m → effects ≡ shown_by m.world (piece_items m conn (Own frame.now))) }
@@ -191,12 +226,15 @@ fn make(parts: &mut Parts, alloc: Global, conn: ConnId, piece: Piece) -> Mem<Eff
     ensures sieve { parts.new.sieve ≡ parts.old.sieve }
 {
     match piece {
-        Piece::Pass(bytes) => {
-            let effects = pass_on(parts, alloc, conn, bytes)?;
+        Piece::Pass(frame) => {
+            let effects = pass_frame(parts, alloc, conn, frame)?;
             Ok(effects)
         }
         Piece::Write(frame) => {
-            let bytes = spelled(alloc, &frame.body)?;
+            let effects = pass_frame(parts, alloc, conn, frame)?;
+            Ok(effects)
+        }
+        Piece::Broken(bytes) => {
             let effects = pass_on(parts, alloc, conn, bytes)?;
             Ok(effects)
         }
@@ -232,7 +270,9 @@ pub(crate) fn hear(parts: &mut Parts, alloc: Global, conn: ConnId, bytes: &[u8])
     ensures effects { IfOk result (λ effects. (m : Monitor) → StandsForMonitor parts.old m → effects ≡ monitor_effects m (Bytes conn bytes.now)) }
     ensures after { OnOk result ((m : Monitor) → StandsForMonitor parts.old m → StandsForMonitor parts.new (monitor_after m (Bytes conn bytes.now))) }
 {
-    parts.sieve.pass(alloc, conn, bytes)?;
+    let mut spares = parts.world.lend_spares();
+    parts.sieve.pass(alloc, conn, bytes, &mut spares)?;
+    parts.world.reclaim_spares(spares);
     let mut effects = Effects::new(alloc);
     while let Some(piece) = parts.sieve.next(conn)? {
         let more = make(parts, alloc, conn, piece)?;

@@ -7,11 +7,10 @@ use Rattle.px_tag.specs.Reading.{number_at}
 use Rattle.px_frame.specs.declared.frame.Frame.{Frame}
 use Rattle.px_frame.specs.declared.frame.Body.{Body}
 use Rattle.px_frame.specs.declared.frame.Body.TheVariants.{Control, Write as write}
-use Rattle.px_frame.specs.Spelling.{spelling_of}
 use Rattle.px_sieve.specs.declared.segment.Segment.{Segment}
 use Rattle.px_sieve.specs.declared.segment.Segment.TheVariants.{Whole, Faulty}
 use Rattle.px_sieve.specs.declared.piece.Piece.{Piece}
-use Rattle.px_sieve.specs.declared.piece.Piece.TheVariants.{Pass, Own, Write}
+use Rattle.px_sieve.specs.declared.piece.Piece.TheVariants.{Pass, Broken, Own, Write}
 
 -- the number that was read, if one was
 abbrev pub number_read : Result (ℕ × Place) TagFault → Option ℕ
@@ -32,13 +31,13 @@ abbrev pub is_own : List ℕ → Bool → List ℕ → Bool
 is_own own let_in packet = let_in && is_among own (command_in packet)
 
 abbrev pub sorted_frame : List ℕ → Bool → Frame → Body → Piece
-sorted_frame own let_in frame (Control packet) = cond (is_own own let_in packet) (Own frame) (Pass (spelling_of (Control packet)))
+sorted_frame own let_in frame (Control packet) = cond (is_own own let_in packet) (Own frame) (Pass frame)
 sorted_frame own let_in frame (write stream offset seek bytes) = Write frame
 
 -- what becomes of a segment
 abbrev pub sorted : List ℕ → Bool → Segment → Piece
 sorted own let_in (Whole frame) = sorted_frame own let_in frame frame.body
-sorted own let_in (Faulty twenty fault at) = Pass twenty
+sorted own let_in (Faulty twenty fault at) = Broken twenty
 
 -- ---- the commands AUTH and REPLY
 

@@ -14,7 +14,7 @@ use Rattle.px_sieve.specs.declared.rest.Rest.{Rest}
 use Rattle.px_sieve.specs.declared.segment.Segment.{Segment}
 use Rattle.px_sieve.specs.declared.segment.Segment.TheVariants.{Whole, Faulty}
 use Rattle.px_sieve.specs.declared.piece.Piece.{Piece}
-use Rattle.px_sieve.specs.declared.piece.Piece.TheVariants.{Pass, Own, Write}
+use Rattle.px_sieve.specs.declared.piece.Piece.TheVariants.{Pass, Broken, Own, Write}
 use Rattle.px_sieve.specs.Segment.{size_of, size_of_all, rest_in}
 use Rattle.px_sieve.specs.Sieve.{Heard, Sieve}
 
@@ -76,7 +76,8 @@ IsPossible (Faulty twenty fault at) = Unit {0}
 
 -- so has a piece
 abbrev pub IsPossiblePiece : Piece → Type 0
-IsPossiblePiece (Pass bytes) = Unit {0}
+IsPossiblePiece (Pass frame) = IsBody frame.body
+IsPossiblePiece (Broken bytes) = Unit {0}
 IsPossiblePiece (Own frame) = IsBody frame.body
 IsPossiblePiece (Write frame) = IsBody frame.body
 

@@ -1,17 +1,15 @@
 //! The pieces that a sieve hands out.
 
-ghost use Rattle.std.specs.Prelude.{◌≡◌, IfOk};
+ghost use Rattle.std.specs.Prelude.{◌≡◌};
 ghost use Rattle.px_sieve.specs.Piece.{command_in, is_among, is_own, is_command, is_reply, sorted, asks};
 ghost use Rattle.px_sieve.specs.Standing.{IsPossible, IsPossiblePiece};
 ghost use Rattle.px_sieve.specs.declared.segment.Segment.TheVariants.{Whole};
 
 use crate::segment::Segment;
-use crate::spelling::spelled;
 use px_cmd::number::AUTH;
 use px_frame::{Body, Frame};
 use px_tag::TagReader;
-use px_types::{Mem, Text};
-use std::alloc::Global;
+use px_types::Text;
 
 // The command of a reply.
 const REPLY: u32 = 2;
@@ -19,8 +17,10 @@ const REPLY: u32 = 2;
 /// A piece of a connection's bytes, as it is handed out.
 #[derive(Debug, Drop)]
 pub enum Piece {
-    /// The bytes of a frame that the world handles, in its canonical spelling, or of a descriptor that breaks a rule.
-    Pass(Text),
+    /// A control frame that the world handles.
+    Pass(Frame),
+    /// The bytes of a descriptor that breaks a rule.
+    Broken(Text),
     /// A control frame of one of the mode's own commands, from a connection that is let in.
     Own(Frame),
     /// A data frame.
@@ -82,31 +82,32 @@ pub(crate) fn asks(own: &[u32], let_in: bool, segment: &Segment) -> bool
     }
 }
 
-// What becomes of a frame.
-fn sort_frame(alloc: Global, own: &[u32], let_in: bool, frame: Frame) -> Mem<Piece>
+// What becomes of a frame. Takes no memory.
+fn sort_frame(own: &[u32], let_in: bool, frame: Frame) -> Piece
     requires { IsPossible (Whole frame) }
-    ensures value { IfOk result (λ piece. piece ≡ sorted own.now let_in (Whole frame)) }
-    ensures possible { IfOk result IsPossiblePiece }
+    ensures value { result ≡ sorted own.now let_in (Whole frame) }
+    ensures possible { IsPossiblePiece result }
 {
     match &frame.body {
-        Body::Write { .. } => Ok(Piece::Write(frame)),
+        Body::Write { .. } => Piece::Write(frame),
         Body::Control(packet) => {
             if is_own(own, let_in, packet.bytes()) {
-                return Ok(Piece::Own(frame));
+                Piece::Own(frame)
+            } else {
+                Piece::Pass(frame)
             }
-            Ok(Piece::Pass(spelled(alloc, &frame.body)?))
         }
     }
 }
 
-/// What becomes of a segment.
-pub(crate) fn sort(alloc: Global, own: &[u32], let_in: bool, segment: Segment) -> Mem<Piece>
+/// What becomes of a segment. Takes no memory.
+pub(crate) fn sort(own: &[u32], let_in: bool, segment: Segment) -> Piece
     requires { IsPossible segment }
-    ensures value { IfOk result (λ piece. piece ≡ sorted own.now let_in segment) }
-    ensures possible { IfOk result IsPossiblePiece }
+    ensures value { result ≡ sorted own.now let_in segment }
+    ensures possible { IsPossiblePiece result }
 {
     match segment {
-        Segment::Whole(frame) => sort_frame(alloc, own, let_in, frame),
-        Segment::Faulty { twenty, .. } => Ok(Piece::Pass(twenty)),
+        Segment::Whole(frame) => sort_frame(own, let_in, frame),
+        Segment::Faulty { twenty, .. } => Piece::Broken(twenty),
     }
 }

@@ -1,6 +1,6 @@
 -- What the events of a connection do, from what their parts do.
 use Rattle.std.proofs.Common.{◌≡◌, ◌<◌, ℕ, true, List, [], ◌∷◌, ◌++◌, map, length, Option, None, Some, Result, Ok, Err, refl, ap, sym, subst, ◌∙◌, append-nil}
-use Rattle.std.specs.Prelude.{All}
+use Rattle.std.specs.Prelude.{All, IfOk, OnOk}
 use Rattle.std.specs.List.{position, AllByRecursion}
 use Rattle.std.specs.Option.{is_some}
 use Rattle.std.proofs.lemmas.Option.{none-some}
@@ -24,9 +24,12 @@ use Rattle.px_core.specs.Parcels.{Takes}
 use Rattle.px_core.specs.Step.{Step, frame, broken, close, sweep, stepped, effects_of, stepped_by, effects_by}
 use Rattle.px_world.specs.declared.doors.Door.{Door}
 use Rattle.px_world.specs.declared.fault.WorldFault.TheVariants.{Live, NotLive}
-use Rattle.px_world.specs.World.{Link, Mixer, link_of}
-use Rattle.px_world.specs.Admission.{if_new, if_named}
-use Rattle.px_world.specs.Running.{is_door, Open, steps_given}
+use Rattle.px_session.specs.declared.event.Event.TheVariants.{Bytes}
+use Rattle.px_world.specs.World.{World, Link, Mixer, link_of, received_of}
+use Rattle.px_world.specs.Admission.{refusal_of, if_new, if_named}
+use Rattle.px_world.specs.Event.{bytes_steps, links_after}
+use Rattle.px_world.specs.Parts.{Does}
+use Rattle.px_world.specs.Running.{is_door, Open, AreDistinct, steps_given}
 use Rattle.px_world.specs.Consistency.{HasStream, AreConsistent}
 use Rattle.px_world.proofs.Openings.{door-absent, refused-there}
 use Rattle.px_world.proofs.Going.{all-first, all-rest}
@@ -115,9 +118,30 @@ module _ (core next last : State Stream) (mixers : List Mixer) (h : AreConsisten
       subst (λ t. AreConsistent t mixers) (sym (one-swept Stream.spec core next s last e l))
       (consistent-steps core mixers (s ∷ sweep ∷ []) h (is, (tt, tt)) (takes, (tt, tt)) (λ sink. (spares sink, (tt, tt))))
 
+  pub consistent-one-frame : (conn : ConnId) (f : Frame) → IsBody f.body → next ≡ stepped_by Stream.spec core (frame conn f ∷ [])
+      → last ≡ stepped_by Stream.spec next (sweep ∷ []) → AreConsistent last mixers
+  consistent-one-frame conn f body e l = consistent-one (frame conn f) body tt (λ sink. tt) e l
+
   pub consistent-given : (conn : ConnId) (given : Result (List Frame) FrameError) → GivesBodies given → next ≡ stepped_by Stream.spec core (steps_given conn given)
       → last ≡ stepped_by Stream.spec next (sweep ∷ []) → AreConsistent last mixers
   consistent-given conn given bodies e l =
       let first : AreConsistent next mixers =
       subst (λ t. AreConsistent t mixers) (sym e) (consistent-steps core mixers (steps_given conn given) h (given-are conn given bodies) (given-take conn given) (λ sink. given-spare sink conn given)) in
       subst (λ t. AreConsistent t mixers) (sym l) (consistent-steps next mixers (sweep ∷ []) first (tt, tt) (tt, tt) (λ sink. (tt, tt)))
+
+-- ---- a frame that was passed over
+
+pub does-passed : {E : Type 0} (before after : State Stream) (doors later : List Door) (conn : ConnId) (bytes : List ℕ) (steps : List (Step Stream)) (given : Result (List Effect) E)
+    → OnOk given (after ≡ stepped_by Stream.spec before (steps ++ sweep ∷ []))
+    → IfOk given (λ effects. effects ≡ effects_by Stream.spec before (steps ++ sweep ∷ []))
+    → ((w : World) → Open doors w.links → refusal_of w (Bytes conn bytes) ≡ None)
+    → ((w : World) → Open doors w.links → bytes_steps conn (received_of (link_of w.links conn)) bytes ≡ steps)
+    → ((w : World) → Open doors w.links → AreDistinct w.links → Open later (links_after w.links (Bytes conn bytes)))
+    → IfOk given (λ effects. (w : World) → Open doors w.links → AreDistinct w.links → Does before after later w (Bytes conn bytes) effects)
+does-passed before after doors later conn bytes steps (Ok effects) core caused admitted same opens = λ w opened distinct. record {
+  admitted = admitted w opened;
+  core = core ∙ ap (λ l. stepped_by Stream.spec before (l ++ sweep ∷ [])) (sym (same w opened));
+  opened = opens w opened distinct;
+  caused = caused ∙ ap (λ l. effects_by Stream.spec before (l ++ sweep ∷ [])) (sym (same w opened));
+}
+does-passed before after doors later conn bytes steps (Err fault) core caused admitted same opens = tt

@@ -1,21 +1,27 @@
 //! What the events of a connection do to the core and to the doors.
 
-ghost use Rattle.std.specs.Prelude.{◌≡◌, ℕ, List, IfOk, IfSome, OnOk, None, Some};
+ghost use Rattle.std.specs.Prelude.{◌≡◌, ℕ, List, [], ◌∷◌, ◌++◌, IfOk, IfSome, OnOk, None, Some, Ok};
 ghost use Rattle.std.specs.List.{position};
 ghost use Rattle.std.specs.Option.{option_to_list};
+ghost use Rattle.px_frame.specs.Frame.{IsBody};
+ghost use Rattle.px_frame.specs.Spelling.{spelling_of};
 ghost use Rattle.px_session.specs.declared.event.Event.TheVariants.{Connect, Bytes, Close, Cut};
 ghost use Rattle.px_state.specs.Effect.{IsSendable};
 ghost use Rattle.px_world.specs.World.{World, Mixer};
-ghost use Rattle.px_world.specs.Running.{is_door, Open, AreDistinct};
+ghost use Rattle.px_model.specs.Stream.{Stream};
+ghost use Rattle.px_core.specs.Step.{sweep, stepped_by, effects_by};
+ghost use Rattle.px_world.specs.Running.{is_door, Open, AreDistinct, steps_given};
 ghost use Rattle.px_world.specs.Consistency.{AreConsistent};
 ghost use Rattle.px_world.specs.declared.doors.Door.{Door};
 ghost use Rattle.px_world.specs.Parts.{Does, Answered, IsRefused};
 
 use crate::WorldFault;
-use crate::doors::{Door, add, drop_at, feed, place_of};
+use crate::doors::{Door, add, drop_at, feed, pass_over, place_of};
 use crate::spares::Spares;
-use crate::stepping::{WorldCore, swept, take_given};
+use crate::spelling::spelled;
+use crate::stepping::{WorldCore, swept, take_given, take_one};
 use px_core::{Effect, Effects};
+use px_frame::{Body, Frame};
 use px_types::{ConnId, Mem, Text};
 use std::alloc::Global;
 
@@ -103,6 +109,62 @@ pub(crate) fn bytes(
     let done = receive(core, doors, alloc, conn, text.as_slice(), spares);
     spares.reclaim_text(text);
     done
+}
+
+// A frame was passed over by the decoder of connection `conn`, with the offset `at` of its payload.
+fn hear_passed(core: &mut WorldCore, conn: ConnId, at: u64, body: Body) -> Mem<Effects>
+    requires { IsBody body }
+    ensures core { OnOk result (core.new.state ≡ stepped_by Stream.spec core.old.state (steps_given conn (Ok (record { at = at; body = body } ∷ [])) ++ sweep ∷ [])) }
+    ensures effects { IfOk result (λ effects. effects ≡ effects_by Stream.spec core.old.state (steps_given conn (Ok (record { at = at; body = body } ∷ [])) ++ sweep ∷ [])) }
+    ensures consistent { OnOk result ((mixers : List Mixer) → AreConsistent core.old.state mixers → AreConsistent core.new.state mixers) }
+{
+    let first = take_one(core, conn, Frame { at, body })?;
+    let effects = swept(core, first)?;
+    Ok(effects)
+}
+
+// A frame arrives for the door at `place`: its decoder passes over it where it stands between two frames, and is fed its spelling elsewhere.
+fn hear_frame(
+    core: &mut WorldCore,
+    doors: &mut [Door],
+    alloc: Global,
+    conn: ConnId,
+    place: usize,
+    frame: Frame,
+    spares: &mut Spares,
+) -> Mem<Effects>
+    requires there { position (is_door conn) doors.old ≡ Some place }
+    requires body { IsBody frame.body }
+    ensures done { IfOk result (λ effects. (w : World) → Open doors.old w.links → AreDistinct w.links → Does core.old.state core.new.state doors.new w (Bytes conn (spelling_of frame.body)) effects) }
+    ensures consistent { OnOk result ((mixers : List Mixer) → AreConsistent core.old.state mixers → AreConsistent core.new.state mixers) }
+{
+    match pass_over(doors, place, &frame.body) {
+        Some(at) => hear_passed(core, conn, at, frame.body),
+        None => {
+            let bytes = spelled(alloc, &frame.body)?;
+            hear(core, doors, alloc, conn, place, bytes.as_slice(), spares)
+        }
+    }
+}
+
+/// A frame arrives from a client, as its spelling would.
+pub(crate) fn frame(
+    core: &mut WorldCore,
+    doors: &mut [Door],
+    alloc: Global,
+    conn: ConnId,
+    frame: Frame,
+    spares: &mut Spares,
+) -> Result<Effects, WorldFault>
+    requires { IsBody frame.body }
+    ensures done { (w : World) → Open doors.old w.links → AreDistinct w.links → Answered result (Does core.old.state core.new.state doors.new w (Bytes conn (spelling_of frame.body))) (IsRefused w (Bytes conn (spelling_of frame.body))) }
+    ensures stays { Answered result (λ _. Unit {0}) (λ _. (core.new.state ≡ core.old.state) × (doors.new ≡ doors.old)) }
+    ensures consistent { OnOk result ((mixers : List Mixer) → AreConsistent core.old.state mixers → AreConsistent core.new.state mixers) }
+{
+    match place_of(doors, conn) {
+        None => Err(WorldFault::NotLive),
+        Some(place) => Ok(hear_frame(core, doors, alloc, conn, place, frame, spares)?),
+    }
 }
 
 // The client of the door at `place` has closed its connection.

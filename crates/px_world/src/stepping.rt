@@ -1,6 +1,6 @@
 //! Steps of the core, one after the other, with their effects joined.
 
-ghost use Rattle.std.specs.Prelude.{◌≡◌, ◌≤◌, [], ◌∷◌, ◌++◌, All, length, map, take, drop, replicate, IfOk, OnOk};
+ghost use Rattle.std.specs.Prelude.{◌≡◌, ◌≤◌, [], ◌∷◌, ◌++◌, All, length, map, take, drop, replicate, IfOk, OnOk, Ok};
 ghost use Rattle.px_frame.specs.Frame.{IsBody};
 ghost use Rattle.px_frame.specs.Progress.{GivesBodies};
 ghost use Rattle.px_msg.specs.View.{message_of, notice_for};
@@ -22,6 +22,18 @@ use std::collections::VecDeque;
 
 /// The core of the world: what moves between sinks are streams.
 pub(crate) type WorldCore = Core<Carried>;
+
+/// Handles a frame of a connection.
+pub(crate) fn take_one(core: &mut WorldCore, conn: ConnId, frame: Frame) -> Mem<Effects>
+    requires { IsBody frame.body }
+    ensures core { OnOk result (core.new.state ≡ stepped_by Plain.spec core.old.state (steps_given conn (Ok (frame ∷ [])))) }
+    ensures effects { IfOk result (λ effects. effects ≡ effects_by Plain.spec core.old.state (steps_given conn (Ok (frame ∷ [])))) }
+{
+    match core.frame(conn, frame) {
+        Ok(effects) => Ok(effects),
+        Err(_) => Err(NoMemory),
+    }
+}
 
 // Handles a frame of a connection, and appends its effects to `effects`.
 fn take_frame(core: &mut WorldCore, conn: ConnId, frame: Frame, effects: &mut Effects) -> Mem<()>

@@ -1,4 +1,5 @@
 use Rattle.std.proofs.Common.{rules, ◌≡◌, Some, None, sym, subst, ◌∙◌}
+use Rattle.px_world.specs.Running.{StandsFor as WorldStands}
 use Rattle.px_sieve.specs.Sieve.{next}
 use Rattle.px_monitor.specs.declared.parts.Parts.{Parts}
 use Rattle.px_monitor.specs.Monitor.{hearing, handed_out, handled_in, piece_items, running_on, StandsForMonitor}
@@ -9,9 +10,14 @@ pub loop-effects-init : goal.loop-effects-init
 loop-effects-init c = λ m stands.
     let was = c.args.parts.now in
     let start = hearing m c.args.conn c.args.bytes.now in
-    subst (λ effects. GoesOn c.args.conn effects (record { world = was.world; sieve = c.pass.new.self; skips = was.skips; records = was.records }) start) (sym c.new-effects.ensures)
-    (goes-first c.args.conn (record { world = was.world; sieve = c.pass.new.self; skips = was.skips; records = was.records }) start
-    (record { world = stands.world; sieve = c.in_ok-pass.ensures m.sieve stands.sieve; skips = stands.skips; records = stands.records }))
+    let parts : Parts = record { world = c.reclaim_spares.new.self; sieve = c.pass.new.self; skips = was.skips; records = was.records } in
+    subst (λ effects. GoesOn c.args.conn effects parts start) (sym c.new-effects.ensures)
+    (goes-first c.args.conn parts start (record {
+      world = subst (λ w. WorldStands w m.world) (sym (c.reclaim_spares.ensures ∙ c.lend_spares-spares.ensures)) stands.world;
+      sieve = c.in_ok-pass.ensures m.sieve stands.sieve;
+      skips = stands.skips;
+      records = stands.records;
+    }))
 
 pub loop-effects-preserved : goal.loop-effects-preserved
 loop-effects-preserved c = λ m stands.
