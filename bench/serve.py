@@ -7,7 +7,7 @@ other in each round.
 KIND is one of
   N       N clients play at once: pacat at 100 ms of latency, 16 bits, stereo, 48,000 frames a second; past 32 on a second sink of PulseAudio's
   slow    8 clients play at two seconds of latency, so that they ask for nothing most of the time
-  idle    32 clients that only listen for events
+  idle    32 clients that only listen for events, once they are there
   sinks   16 sinks and no client
   long    32 clients play for two minutes: the memory after 13 seconds, after 60 and at the end
   links   64 clients come and go 100 times: the memory after the first time, the tenth and the last
@@ -54,7 +54,7 @@ class Server:
         while not os.path.exists(socket) and self.process.poll() is None and time.monotonic() < until:
             time.sleep(0.02)
         time.sleep(0.5)
-        self.before = self.spent()
+        self.before = self.spent()  # processor seconds that aren't counted
 
     def spent(self):
         """Processor seconds of the threads that are there."""
@@ -70,7 +70,7 @@ class Server:
             return next(int(line.split()[1]) for line in file if line.startswith("VmRSS:")) / 1024
 
     def end(self):
-        """Ends it, and answers the processor seconds that it took from its start on."""
+        """Ends it, and answers the processor seconds that are counted."""
         for sent, seconds in ((signal.SIGTERM, 10), (signal.SIGKILL, 10)):
             os.kill(self.process.pid, sent)
             until = time.monotonic() + seconds
@@ -137,9 +137,15 @@ def begun(server, kind, clients, seconds, sinks):
 
 
 def measured(server, kind, clients, seconds, sinks):
-    """The server's memory in MB by the second, while these clients are there, and whether none failed."""
-    under_way, memory, start = begun(server, kind, clients, seconds, sinks), [], time.monotonic()
+    """The server's memory in MB by the second, while these clients are there, and whether none failed. Where none plays, it is counted once all
+    have been there for a while."""
+    under_way, memory = begun(server, kind, clients, seconds, sinks), []
     plays = bool(under_way) and kind != "idle"
+    if not plays:
+        # what it costs that they come is left out
+        time.sleep(2)
+        server.before = server.spent()
+    start = time.monotonic()
     while any(client.poll() is None for client in under_way) if plays else time.monotonic() < start + seconds:
         memory.append((time.monotonic() - start, server.resident()))
         time.sleep(0.1)

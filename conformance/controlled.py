@@ -18,6 +18,7 @@ MESSAGE = 0xFFFFFFFF  # the tag of what answers nothing
 NORM = 65_536
 NO_ENTITY, ACCESS = 5, 1
 LONGEST = 1 << 30  # bytes after which a client gives up
+SILENCE = 1_000_000  # receives in a row that find nothing after which it does
 COOKIE = bytes(range(256))
 USAGE = "pulse_rw: usage: "
 
@@ -27,9 +28,9 @@ def has_ctl(program):
     return "ctl --socket" in subprocess.run([program], capture_output=True, text=True, timeout=PATIENCE).stderr
 
 
-def ctl(program, path, cookie, *words, patience=PATIENCE):
+def ctl(program, path, cookie, *words, patience=PATIENCE, environment=None):
     """The status, the output and the log of `ctl` with these words, where its input is `cookie`."""
-    ran = subprocess.run([program, "ctl", "--socket", path, *words], input=cookie, capture_output=True, timeout=patience)
+    ran = subprocess.run([program, "ctl", "--socket", path, *words], input=cookie, env=environment, capture_output=True, timeout=patience)
     return ran.returncode, ran.stdout.decode(), ran.stderr.decode()
 
 
@@ -252,13 +253,13 @@ class Answering:
         return came
 
 
-def answered(program, folder, answers, *words, waits=False, patience=PATIENCE):
+def answered(program, folder, answers, *words, waits=False, **how):
     """What `ctl` says to a server with these answers, and the frames that it sent."""
     path = os.path.join(folder, "answering")
     if os.path.exists(path):
         os.unlink(path)
     server = Answering(path, answers, waits)
-    said = ctl(program, path, COOKIE, *words, patience=patience)
+    said = ctl(program, path, COOKIE, *words, **how)
     server.thread.join(timeout=PATIENCE)
     return said, server.heard
 
@@ -385,16 +386,27 @@ def flooded(program, folder):
 
 
 def silent(program, folder):
-    """A server that stays silent, or does in the middle of a frame, is given up after a million calls of a millisecond each."""
-    path = os.path.join(folder, "half")
-    half = Answering(path, [FIRST[:21]], waits=True)
-    of_half = []
-    beside = threading.Thread(target=lambda: of_half.append(ctl(program, path, COOKIE, "list", patience=3_000)))
-    beside.start()
-    good = agree(answered(program, folder, [b""], "list", waits=True, patience=3_000)[0], SILENT)
-    beside.join()
-    half.thread.join(timeout=PATIENCE)
-    return agree(of_half, [SILENT]) and good
+    """A server that is silent, from the start or in the middle of a frame, is given up once a million receives in a row found nothing; those before the
+    last bytes that came don't count. Here a receive doesn't wait (`hasty.c`)."""
+    library, log = os.path.join(folder, "hasty.so"), os.path.join(folder, "log")
+    source = os.path.join(os.path.dirname(os.path.realpath(__file__)), "hasty.c")
+    subprocess.run(["cc", "-shared", "-fPIC", "-O2", "-o", library, source], check=True)
+    environment = dict(os.environ, LD_PRELOAD=library, HASTY_LOG=log)
+    for answers, since in (([b""], False), ([FIRST[:21]], False), ([FIRST], False), ([delayed(message()[:7], message()[7:])], True)):
+        if not agree(answered(program, folder, answers, "list", waits=True, environment=environment)[0], SILENT):
+            return False
+        with open(log, encoding="ascii") as file:
+            in_a_row, in_all = map(int, file.read().split())
+        if not agree((in_a_row, in_all > in_a_row), (SILENCE, in_all > SILENCE)) or since and in_all == in_a_row:
+            return False
+    return True
+
+
+def delayed(*pieces):
+    """These pieces, each a while after the one before."""
+    for piece in pieces:
+        time.sleep(0.1)
+        yield piece
 
 
 # PulseAudio
@@ -453,7 +465,6 @@ def same_list_at_pulseaudio(program, folder):
     return good
 
 
-# the rows of Python alone; that of a quarter of an hour; and the others, with the clients that each wants
+# the rows of Python alone; and the others, with the commands that each wants
 ROWS = (errands, shut, words_of_ctl, nobody, sends, lists_inputs, bad_replies, denied, gone, flooded)
-LONG = (silent,)
-MORE = {same_list: ["pactl"], at_pulseaudio: ["pulseaudio"], same_list_at_pulseaudio: ["pulseaudio", "pactl"]}
+MORE = {silent: ["cc"], same_list: ["pactl"], at_pulseaudio: ["pulseaudio"], same_list_at_pulseaudio: ["pulseaudio", "pactl"]}
