@@ -67,7 +67,7 @@ impl Stage for Monitoring {
             Err(fault) => return Err(fault),
         };
         match write_monitored(pieces, sink, &outcome) {
-            Ok(()) => Ok(None),
+            Ok(()) => Ok(self.world.used_text()),
             Err(_) => Err(WorldFault::NoMemory),
         }
     }
