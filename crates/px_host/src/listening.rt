@@ -3,6 +3,7 @@ ghost use Rattle.std.specs.Prelude.{◌≡◌, IfOk, string_bytes};
 
 use crate::UnixLink;
 use crate::faults::or_print;
+use crate::unix_link::PATIENCE;
 use std::alloc::Global;
 use std::io::{Eprint, ErrorKind};
 use std::os::unix::fs::{FileTypeExt, PermissionsExt};
@@ -13,10 +14,6 @@ use std::{fs, io};
 
 // The most bytes of a socket's path on Linux.
 const MAX_PATH: usize = 107;
-
-// How long a receive of a link waits, in milliseconds. A send that found the client not ready is tried again that often; all else is sent by the
-// worker that has it for the client, so nothing waits for a receive to end.
-const PATIENCE: u64 = 100;
 
 // How long a send waits, in milliseconds: the sending worker may hold up others.
 const HASTE: u64 = 1;

@@ -264,7 +264,7 @@ impl<S: Files<File = File> + Net + Clock + Eprint + AllocGlobal + Copy + Drop + 
             "cannot send from other threads to a client at",
             path(&self.listening),
         );
-        or_print(&self.rt, what, path, link.outgoing()).ok()
+        or_print(&self.rt, what, path, link.share()).ok()
     }
 
     fn device(

@@ -7,11 +7,20 @@ use std::io;
 use std::io::{ErrorKind, Read, Write};
 use std::net::Shutdown;
 use std::os::unix::net::UnixStream;
+use std::time::Duration;
+
+/// How long a receive of a client's link waits, in milliseconds: what waits for the client is tried that often.
+pub(crate) const PATIENCE: u64 = 100;
+
+// How long it waits, in milliseconds, where other threads send for the client and it was ready for all that they had.
+const IDLE: u64 = 1_000;
 
 /// A link over a socket. A call that would block, on a socket that doesn't block or only for a time, finds the link not ready.
 #[derive(Drop)]
 pub struct UnixLink {
     stream: UnixStream,
+    // Whether other threads send for its client, so that a receive waits longer while nothing waits to be sent.
+    idles: bool,
     faults: u64,
     ends: u64,
     not_yets: u64,
@@ -46,6 +55,17 @@ fn send(stream: &mut UnixStream, bytes: &[u8]) -> Sent
     }
 }
 
+// Whether a send of `count` bytes that answered `sent` took all of them.
+fn is_whole(sent: Sent, count: usize) -> bool {
+    matches!(sent, Sent::Bytes(taken) if taken >= count)
+}
+
+// Has receives over the socket wait for this many milliseconds from the next one on, those of its other half too. Where that can't be set, they
+// wait as long as before.
+fn wait_for(stream: &UnixStream, millis: u64) {
+    let _set = stream.set_read_timeout(Some(Duration::from_millis(millis)));
+}
+
 impl UnixLink {
     /// A link over a socket, none of whose calls has failed. Takes no memory.
     pub fn new(stream: UnixStream) -> UnixLink
@@ -53,6 +73,7 @@ impl UnixLink {
     {
         UnixLink {
             stream,
+            idles: false,
             faults: 0,
             ends: 0,
             not_yets: 0,
@@ -93,6 +114,28 @@ impl UnixLink {
             not_yets: 0,
         })
     }
+
+    // The sending half of the link, for other threads, or why there is none. From then on a receive waits longer while nothing waits to be sent.
+    pub(crate) fn share(&mut self) -> io::Result<Outgoing>
+        ensures { (self.new.faults ≡ self.old.faults) × (self.new.ends ≡ self.old.ends) × (self.new.not_yets ≡ self.old.not_yets) }
+    {
+        let outgoing = self.outgoing()?;
+        self.idles = true;
+        wait_for(&self.stream, IDLE);
+        Ok(outgoing)
+    }
+
+    // Sets how long a receive waits, after a send of `count` bytes that answered `sent`.
+    fn wait_after(&self, sent: Sent, count: usize) {
+        if !self.idles {
+            return;
+        }
+        if is_whole(sent, count) {
+            wait_for(&self.stream, IDLE);
+        } else {
+            wait_for(&self.stream, PATIENCE);
+        }
+    }
 }
 
 impl Link for UnixLink {
@@ -130,6 +173,7 @@ impl Link for UnixLink {
             Sent::NotYet => self.not_yets = self.not_yets.saturating_add(1),
             Sent::Failed => self.faults = self.faults.saturating_add(1),
         }
+        self.wait_after(sent, bytes.len());
         sent
     }
 }
@@ -147,6 +191,10 @@ impl Outlet for Outgoing {
             Sent::Bytes(_) => {}
             Sent::NotYet => self.not_yets = self.not_yets.saturating_add(1),
             Sent::Failed => self.faults = self.faults.saturating_add(1),
+        }
+        // the rest is the link's own worker's to send, which tries at the end of each receive
+        if !is_whole(sent, bytes.len()) {
+            wait_for(&self.stream, PATIENCE);
         }
         sent
     }
