@@ -348,7 +348,12 @@ impl<S: Files<File = File> + Net + Clock + Eprint + AllocGlobal + Copy + Drop + 
         }
     }
 
-    fn hang_up(&mut self, link: UnixLink) {
+    fn hang_up(&mut self, mut link: UnixLink) {
+        if let Some(error) = link.take_fault() {
+            let _lost = eprintln!(self.rt;
+                "pulse_rw: the connection to the server failed: {error}"
+            );
+        }
         self.link_faults = self.link_faults.saturating_add(link.faults());
         self.ends = self.ends.saturating_add(link.ends());
         self.not_yets = self.not_yets.saturating_add(link.not_yets());

@@ -24,6 +24,7 @@ pub struct UnixLink {
     faults: u64,
     ends: u64,
     not_yets: u64,
+    fault: Option<io::Error>,
 }
 
 /// The sending half of a link, over the link's own socket.
@@ -42,8 +43,8 @@ fn is_waiting(kind: ErrorKind) -> bool {
     )
 }
 
-// Sends a front of `bytes`. A socket that takes none of them has failed.
-fn send(stream: &mut UnixStream, bytes: &[u8]) -> Sent
+// Sends a front of `bytes`. A socket that takes none of them has failed; `fault` keeps the system's cause.
+fn send(stream: &mut UnixStream, bytes: &[u8], fault: &mut Option<io::Error>) -> Sent
     requires { 0 < length bytes.now }
     ensures { SendTakes result bytes.now None None }
 {
@@ -51,7 +52,10 @@ fn send(stream: &mut UnixStream, bytes: &[u8]) -> Sent
         Ok(count) if count > 0 => Sent::Bytes(count),
         Ok(_) => Sent::Failed,
         Err(error) if is_waiting(error.kind()) => Sent::NotYet,
-        Err(_) => Sent::Failed,
+        Err(error) => {
+            *fault = Some(error);
+            Sent::Failed
+        }
     }
 }
 
@@ -77,7 +81,15 @@ impl UnixLink {
             faults: 0,
             ends: 0,
             not_yets: 0,
+            fault: None,
         }
+    }
+
+    // Why its last call that failed did, taken out of it.
+    pub(crate) fn take_fault(&mut self) -> Option<io::Error>
+        ensures { (self.new.faults ≡ self.old.faults) × (self.new.ends ≡ self.old.ends) × (self.new.not_yets ≡ self.old.not_yets) }
+    {
+        self.fault.take()
     }
 
     /// How often its calls failed.
@@ -160,6 +172,7 @@ impl Link for UnixLink {
                     Recv::NotYet
                 } else {
                     self.faults = self.faults.saturating_add(1);
+                    self.fault = Some(error);
                     Recv::Failed
                 }
             }
@@ -167,7 +180,7 @@ impl Link for UnixLink {
     }
 
     fn send(&mut self, bytes: &[u8]) -> Sent {
-        let sent = send(&mut self.stream, bytes);
+        let sent = send(&mut self.stream, bytes, &mut self.fault);
         match sent {
             Sent::Bytes(_) => {}
             Sent::NotYet => self.not_yets = self.not_yets.saturating_add(1),
@@ -186,7 +199,7 @@ impl Outlet for Outgoing {
     ghost counts = { λ o. record { faults = o.faults; ends = 0; not_yets = o.not_yets } };
 
     fn send(&mut self, bytes: &[u8]) -> Sent {
-        let sent = send(&mut self.stream, bytes);
+        let sent = send(&mut self.stream, bytes, &mut None);
         match sent {
             Sent::Bytes(_) => {}
             Sent::NotYet => self.not_yets = self.not_yets.saturating_add(1),
