@@ -1,0 +1,4 @@
+pub mod Ramp
+pub mod RampMix
+pub mod Deciding
+pub mod Rows

@@ -1,0 +1,13 @@
+//! A sink whose volumes change by ramps: a factor goes evenly to its new number over a number of frames, from the horizon on. `ramp` has a ramp, `rows`
+//! worked examples, `laws` the laws of ramped turns and of the deciding turn.
+#![tactic(auto)]
+
+mod laws;
+mod ramp;
+mod rows;
+
+pub use laws::{
+    ramped_frames_are_decided, ramped_turn_is_the_plain_one, ramps_go_from_start_to_end,
+};
+pub use ramp::Ramp;
+pub use rows::worked_ramps;
