@@ -15,16 +15,22 @@ use std::alloc::Global;
 pub struct NoHost {
     faults: u64,
     device_faults: u64,
+    link_faults: u64,
+    ends: u64,
+    not_yets: u64,
 }
 
 impl NoHost {
     /// A host none of whose calls has failed yet.
     pub fn new() -> NoHost
-        ensures { result ≡ record { faults = 0; device_faults = 0 } }
+        ensures { result ≡ record { faults = 0; device_faults = 0; link_faults = 0; ends = 0; not_yets = 0 } }
     {
         NoHost {
             faults: 0,
             device_faults: 0,
+            link_faults: 0,
+            ends: 0,
+            not_yets: 0,
         }
     }
 
@@ -38,7 +44,7 @@ impl NoHost {
 }
 
 impl Host for NoHost {
-    ghost use Rattle.std.specs.Prelude.{None, Some, []};
+    ghost use Rattle.std.specs.Prelude.{None};
 
     type L = MemLink;
 
@@ -64,7 +70,13 @@ impl Host for NoHost {
       core_recorders = None;
     } };
 
-    ghost dialled = { λ _. record { given = 0; link_faults = 0; ends = 0; not_yets = 0; hung = Some [] } };
+    ghost dialled = { λ h. record {
+      given = 0;
+      link_faults = h.link_faults;
+      ends = h.ends;
+      not_yets = h.not_yets;
+      hung = None;
+    } };
 
     fn start(&mut self, _alloc: Global, _options: &ServeOptions) -> HeaderRead {
         self.fail();
@@ -118,6 +130,9 @@ impl Host for NoHost {
         Connected::Failed
     }
 
-    // It gave no link.
-    fn hang_up(&mut self, _link: MemLink) {}
+    fn hang_up(&mut self, link: MemLink) {
+        self.link_faults = self.link_faults.saturating_add(link.faults());
+        self.ends = self.ends.saturating_add(link.ends());
+        self.not_yets = self.not_yets.saturating_add(link.not_yets());
+    }
 }

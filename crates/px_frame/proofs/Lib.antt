@@ -8,3 +8,4 @@ pub mod SpellingLemmas
 pub mod PiecesLemmas
 pub mod BodyLemmas
 pub mod RunLemmas
+pub mod PassingLemmas

@@ -18,11 +18,11 @@ use Rattle.px_frame.proofs.ReadingLemmas.{splits-none, splits-one, splits-more, 
 use Rattle.px_frame.proofs.WriteLemmas.{control-lawful, data-lawful}
 
 -- a frame whose bytes are the spelling of a body, and that means this body
-record IsSpelling (body : Body) : Type 0 where
-  wire : Wire
-  frame : IsFrame wire
-  bytes : spelling_of body ≡ wire_bytes wire
-  means : body_of wire.descriptor wire.payload ≡ body
+pub record IsSpelling (body : Body) : Type 0 where
+  pub wire : Wire
+  pub frame : IsFrame wire
+  pub bytes : spelling_of body ≡ wire_bytes wire
+  pub means : body_of wire.descriptor wire.payload ≡ body
 
 -- the upper and the lower word of a number of 64 bits
 upper : (n : ℕ) → n < 2 ^ 64 → n / 2 ^ 32 < 2 ^ 32
@@ -63,7 +63,7 @@ data_frame stream offset seek bytes (other, mode, some, few) (fits, signed) =
           ∙ (ap (λ o. Write stream o (seek_of d) bytes) there ∙ ap (λ s. Write stream offset s bytes) (omega (arith, mode)));
     }
 
-spelled : (body : Body) → IsBody body → HasNumbers body → IsSpelling body
+pub spelled : (body : Body) → IsBody body → HasNumbers body → IsSpelling body
 spelled (Control packet) lawful fits = control packet lawful
 spelled (Write stream offset seek bytes) lawful fits = data_frame stream offset seek bytes lawful fits
 

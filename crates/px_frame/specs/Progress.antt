@@ -1,11 +1,11 @@
 -- The state of a decoder, and how its answers follow from all bytes that it was fed.
-use Rattle.std.specs.Prelude.{◌≡◌, ℕ, List, [], ◌++◌, Result, Ok, Err, All}
+use Rattle.std.specs.Prelude.{◌≡◌, ℕ, ◌+◌, List, [], ◌∷◌, ◌++◌, Option, None, Some, Result, Ok, Err, All}
 use Rattle.px_frame.specs.declared.fault.FrameError.{FrameError}
 use Rattle.px_frame.specs.declared.fault.FrameError.TheVariants.{Fault, Failed, NoMemory}
 use Rattle.px_frame.specs.declared.fault.FrameFault.{FrameFault}
 use Rattle.px_frame.specs.declared.frame.Frame.{Frame}
 use Rattle.px_frame.specs.Feeding.{Feeds}
-use Rattle.px_frame.specs.Frame.{IsBody}
+use Rattle.px_frame.specs.Frame.{IsBody, offset_at}
 use Rattle.px_frame.specs.Reading.{Unfinished, Broken, IsRead}
 
 -- within the frame that began at an offset, with the bytes of it that have come; after a fault; or lost
@@ -29,6 +29,20 @@ Answers fed before piece (Err (Fault frames fault at)) =
     IsRead (fed ++ piece) (before ++ frames) (Broken fault at) × IsRead fed before Unfinished
 Answers fed before piece (Err (Failed fault at)) = IsRead fed before (Broken fault at)
 Answers fed before piece (Err NoMemory) = Unit {0}
+
+-- the offset at which the next frame begins, where the decoder stands between two frames
+abbrev pub next_start : Progress → Option ℕ
+next_start (Within start []) = Some start
+next_start (Within start (byte ∷ held)) = None
+next_start (Stopped fault at) = None
+next_start Lost = None
+
+-- `bytes` bytes further on, where it stands between two frames
+abbrev pub passed_over : ℕ → Progress → Progress
+passed_over bytes (Within start []) = Within (offset_at (start + bytes)) []
+passed_over bytes (Within start (byte ∷ held)) = Within start (byte ∷ held)
+passed_over bytes (Stopped fault at) = Stopped fault at
+passed_over bytes Lost = Lost
 
 -- each frame that it gives has a possible body
 abbrev pub GivesBodies : Result (List Frame) FrameError → Type 0

@@ -1,15 +1,17 @@
 // The decoder of a connection's bytes.
 
-ghost use Rattle.std.specs.Prelude.{◌≡◌, ℕ, List, [], ◌++◌, ◌↔◌, IfOk, OnOk};
+ghost use Rattle.std.specs.Prelude.{◌≡◌, ℕ, ◌+◌, List, [], ◌∷◌, ◌++◌, ◌↔◌, IfOk, OnOk, length, Some, option_map};
 ghost use Rattle.std.specs.Option.{option_to_list};
 ghost use Rattle.px_frame.specs.declared.frame.Frame.{Frame};
 ghost use Rattle.px_frame.specs.declared.fault.FrameFault.{FrameFault};
-ghost use Rattle.px_frame.specs.Progress.{Within, Stopped, Lost, HasFed, Answers, Leaves, GivesBodies};
+ghost use Rattle.px_frame.specs.Frame.{IsBody, offset_at};
+ghost use Rattle.px_frame.specs.Progress.{Within, Stopped, Lost, HasFed, Answers, Leaves, GivesBodies, next_start, passed_over};
+ghost use Rattle.px_frame.specs.Spelling.{spelling_of, HasNumbers};
 ghost use Rattle.px_frame.specs.Run.{IsRun, IsRemaining, answer_of, end_of};
 ghost use Rattle.px_frame.specs.Stage.{IsPart, held_of};
 
 use crate::fault::{FrameError, FrameFault};
-use crate::frame::{Frame, Frames};
+use crate::frame::{Body, Frame, Frames};
 use crate::stage::{Part, Step, advance};
 use px_block::{BlockSource, Mem};
 use std::alloc::Global;
@@ -96,6 +98,40 @@ impl Decoder {
         }
     }
 
+    /// Passes over a frame that isn't fed, as if its spelling were, and gives the offset of its payload. `None` where the decoder doesn't stand
+    /// between two frames: then nothing changes. Takes no memory.
+    pub fn pass_over(&mut self, body: &Body) -> Option<u64>
+        requires { IsBody body.now }
+        ensures at { result ≡ option_map (λ start. offset_at (start + 20)) (next_start self.old) }
+        ensures new { self.new ≡ passed_over (length (spelling_of body.now)) self.old }
+        // What a feed of the spelling would give, and leave.
+        ensures answers { (at : ℕ) (fed : List ℕ) (before : List Frame) → result ≡ Some at → HasFed self.old fed before
+            → Answers fed before (spelling_of body.now) (Ok (record { at = at; body = body.now } ∷ [])) }
+        ensures leaves { (at : ℕ) (fed : List ℕ) (before : List Frame) → result ≡ Some at → HasFed self.old fed before
+            → Leaves self.new fed before (spelling_of body.now) (Ok (record { at = at; body = body.now } ∷ [])) }
+    {
+        self.step_over(body)
+    }
+
+    // Passes over a frame, and gives the offset of its payload.
+    fn step_over(&mut self, body: &Body) -> Option<u64>
+        requires { IsBody body.now }
+        ensures at { result ≡ option_map (λ start. offset_at (start + 20)) (next_start self.old) }
+        ensures new { self.new ≡ passed_over (length (spelling_of body.now)) self.old }
+        ensures numbers { HasNumbers body.now }
+    {
+        let bytes = payload_len(body);
+        let Stage::Within(part) = &self.stage else {
+            return None;
+        };
+        if !part.is_new() {
+            return None;
+        }
+        let at = self.start.saturating_add(20);
+        self.start = at.saturating_add(bytes);
+        Some(at)
+    }
+
     // Takes the state at the end of the run, and answers what it brought.
     fn stand(&mut self, run: Run) -> Result<Frames, FrameError>
         requires { IsRemaining run }
@@ -116,6 +152,27 @@ impl Decoder {
                 self.stage = Stage::Failed { fault, at };
                 Err(FrameError::Fault { frames, fault, at })
             }
+        }
+    }
+}
+
+// The bytes of a body's payload. Takes no memory.
+fn payload_len(body: &Body) -> u64
+    requires { IsBody body.now }
+    ensures size { 20 + result ≡ length (spelling_of body.now) }
+    ensures numbers { HasNumbers body.now }
+{
+    match body {
+        Body::Control(packet) => packet.bytes().len() as u64,
+        Body::Write {
+            stream,
+            offset,
+            bytes,
+            ..
+        } => {
+            // their types say what numbers they are
+            let _numbers = (*stream, *offset);
+            bytes.len() as u64
         }
     }
 }

@@ -1,6 +1,6 @@
 // The part of the current frame that has come.
 
-ghost use Rattle.std.specs.Prelude.{◌≡◌, ◌≢◌, ℕ, ◌+◌, ◌<◌, ◌≤◌, List, [], ◌++◌, length, take, IfOk, None};
+ghost use Rattle.std.specs.Prelude.{◌≡◌, ◌≢◌, ℕ, ◌+◌, ◌<◌, ◌≤◌, List, [], ◌++◌, length, nat_eq, take, IfOk, None};
 ghost use Rattle.px_types.specs.declared.limits.TheConstants.{CONTROL_CHANNEL};
 ghost use Rattle.px_frame.specs.Descriptor.{broken_rule, descriptor_bytes};
 ghost use Rattle.px_frame.specs.Frame.{body_of};
@@ -62,6 +62,18 @@ impl Part {
         Part::Head {
             bytes: [0; 20],
             got: 0,
+        }
+    }
+
+    /// Whether no byte of a frame has come. Takes no memory.
+    pub fn is_new(&self) -> bool
+        requires { IsPart self.now }
+        ensures { result ≡ nat_eq (length (held_of self.now)) 0 }
+    {
+        match self {
+            Part::Head { got, .. } => *got == 0,
+            Part::Control { .. } => false,
+            Part::Write { .. } => false,
         }
     }
 }

@@ -158,7 +158,7 @@ impl StreamState {
         if self.draining.is_empty() || !self.has_ended() {
             return None;
         }
-        Some(self.draining.remove(0))
+        self.draining.pop_front()
     }
 
     /// As `Stream::draining`.

@@ -7,6 +7,7 @@ use px_annals::{Numbers, PlainRun, PlainStream};
 use px_model::Run;
 use px_types::Mem;
 use std::alloc::Global;
+use std::collections::VecDeque;
 
 // How long it has been playing or silent.
 fn plain_run(run: Run) -> PlainRun
@@ -24,6 +25,17 @@ fn copied(alloc: Global, numbers: &[u32]) -> Mem<Numbers>
 {
     let mut copy = Vec::new(alloc);
     copy.extend_from_slice(numbers)?;
+    Ok(Numbers::from_vec(copy))
+}
+
+// Copies the numbers of a queue to a list.
+fn copied_queue(alloc: Global, numbers: &VecDeque<u32>) -> Mem<Numbers>
+    ensures { IfOk result (λ copy. copy ≡ numbers.now.items) }
+{
+    let (front, back) = numbers.as_slices();
+    let mut copy = Vec::new(alloc);
+    copy.extend_from_slice(front)?;
+    copy.extend_from_slice(back)?;
     Ok(Numbers::from_vec(copy))
 }
 
@@ -50,7 +62,7 @@ impl StreamState {
             tlength: self.tlength,
             minreq: self.minreq,
             requested: self.requested,
-            draining: copied(alloc, self.draining.as_slice())?,
+            draining: copied_queue(alloc, &self.draining)?,
             run: plain_run(self.run),
             format: self.spec.format.code(),
             channels: self.spec.channels,

@@ -18,6 +18,7 @@ use px_sample::Spec;
 use px_types::{Mem, NoMemory};
 use px_vol::Factors;
 use std::alloc::Global;
+use std::collections::VecDeque;
 use std::marker::Model;
 
 /// The state of a stream: a queue of frames with what a client and the core set. All counts are frames.
@@ -30,7 +31,7 @@ pub(crate) struct StreamState {
     pub(crate) minreq: u32,
     prebuf: u32,
     pub(crate) requested: u32,
-    pub(crate) draining: Vec<u32>,
+    pub(crate) draining: VecDeque<u32>,
     pub(crate) run: Run,
     pub(crate) spec: Spec,
     pub(crate) feed: Feed,
@@ -38,7 +39,8 @@ pub(crate) struct StreamState {
 }
 
 impl Model for StreamState {
-    ghost use Rattle.std.specs.Prelude.{◌≡◌, ◌-◌, min, vec_len, vec_capacity};
+    ghost use Rattle.std.specs.Prelude.{◌≡◌, ◌-◌, min};
+    ghost use Rattle.std.specs.VecDeque.{deque_len, deque_capacity};
     ghost use Rattle.px_msg.specs.View.{sample_spec};
     ghost use Rattle.px_model.specs.Frame.{frame_size};
     ghost use Rattle.px_stream.specs.HeldStream.{HeldStream, stream_of, IsMixable};
@@ -47,7 +49,7 @@ impl Model for StreamState {
 
     ghost view = { λ s. record {
       stream = stream_of s.queue.queue s.corked s.maxlength s.tlength s.minreq s.requested s.draining.items s.run (sample_spec s.spec) s.feed s.factors;
-      room = min s.queue.room (vec_capacity s.draining - vec_len s.draining);
+      room = min s.queue.room (deque_capacity s.draining - deque_len s.draining);
       block_room = s.queue.block_room;
       blocks = s.queue.blocks;
     } };
@@ -74,7 +76,7 @@ impl StreamState {
             minreq: new.attr.minreq,
             prebuf: new.attr.prebuf,
             requested: new.attr.tlength,
-            draining: Vec::new(alloc),
+            draining: VecDeque::new(alloc),
             run: Run::Quiet(0),
             spec: new.spec,
             feed: new.feed,
@@ -224,7 +226,7 @@ impl StreamState {
         ensures block_room { self.new.block_room ≡ self.old.block_room }
         ensures blocks { self.new.blocks ≡ self.old.blocks }
     {
-        self.draining.push_reserved(tag);
+        self.draining.push_back_reserved(tag);
         self.queue.set_hold(false);
     }
 
