@@ -1,3 +1,4 @@
 pub mod Between
 pub mod Ramped
 pub mod Decided
+pub mod Loops

@@ -13,7 +13,8 @@ use Rattle.px_model.specs.Sink.{Sink, Input, streams_of}
 use Rattle.px_model.specs.Turn.{next_horizon, settled, with_messages, turned}
 use Rattle.px_model.proofs.Rounds.{mix_asked}
 use Rattle.px_ramp.specs.declared.ramp.Ramp.{Ramp}
-use Rattle.px_ramp.specs.Ramp.{InputRamps, value_at, flat, ramps_with_all}
+use Rattle.px_ramp.specs.declared.ramps.InputRamps.{InputRamps}
+use Rattle.px_ramp.specs.Ramp.{value_at, flat, ramps_with_all}
 use Rattle.px_ramp.specs.RampMix.{RampSink, ramped_inputs, ramp_mixed, ramp_turned, StandAt}
 use Rattle.px_ramp.proofs.Between.{risen, fallen}
 

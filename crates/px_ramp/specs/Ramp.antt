@@ -5,6 +5,7 @@ use Rattle.std.specs.Int.{int_div_euclid}
 use Rattle.px_model.specs.Stream.{Stream}
 use Rattle.px_model.specs.Message.{Message, InputFactors}
 use Rattle.px_ramp.specs.declared.ramp.Ramp.{Ramp}
+use Rattle.px_ramp.specs.declared.ramps.InputRamps.{InputRamps}
 
 -- the factor at frame j of a ramp over n frames: it goes evenly from its first number to its last, rounded down, and stays there. It is never negative,
 -- since it lies between the two
@@ -18,11 +19,6 @@ flat f = record { from = f; to = f; start = 0 }
 -- a ramp with a new aim f from frame h on: it starts at the value there, unless it aims at f already
 abbrev pub aimed : ℕ → ℕ → ℕ → Ramp → Ramp
 aimed n h f r = if r.to == f then r else record { from = value_at n r h; to = f; start = h }
-
--- the ramps of an input, one for each sink channel
-pub record InputRamps : Type 0 where
-  pub input : ℕ
-  pub ramps : List Ramp
 
 -- each ramp with its new aim
 abbrev pub all_aimed : ℕ → ℕ → List ℕ → List Ramp → List Ramp

@@ -9,7 +9,8 @@ use Rattle.px_model.specs.Mix.{Samples, mix_of}
 use Rattle.px_model.specs.Sink.{Sink, Input, empty_sink, streams_of}
 use Rattle.px_model.specs.Turn.{next_horizon, turned, stopped_turn}
 use Rattle.px_ramp.specs.declared.ramp.Ramp.{Ramp}
-use Rattle.px_ramp.specs.Ramp.{InputRamps, value_at, ramps_at, ramps_with_all}
+use Rattle.px_ramp.specs.declared.ramps.InputRamps.{InputRamps}
+use Rattle.px_ramp.specs.Ramp.{value_at, ramps_at, ramps_with_all}
 
 -- the factors of some ramps at frame f
 abbrev pub values_at : ℕ → ℕ → List Ramp → List ℕ

@@ -61,17 +61,18 @@ impl Ramp {
         between(self.from, self.to, way(self.start, at, frames), frames)
     }
 
-    /// Aims at another factor from frame `at` on, starting at the value there. A ramp that aims at it already stays what it is.
-    pub fn aim(&mut self, frames: u32, at: u64, factor: u32)
+    /// The ramp with another aim from frame `at` on, starting at the value there. One that aims at it already stays what it is.
+    pub fn aimed(self, frames: u32, at: u64, factor: u32) -> Ramp
         requires { 1 ≤ frames }
-        ensures { self.new ≡ aimed frames at factor self.old }
+        ensures { result ≡ aimed frames at factor self }
     {
-        if self.to != factor {
-            *self = Ramp {
-                from: self.value(frames, at),
-                to: factor,
-                start: at,
-            };
+        if self.to == factor {
+            return self;
+        }
+        Ramp {
+            from: self.value(frames, at),
+            to: factor,
+            start: at,
         }
     }
 }
