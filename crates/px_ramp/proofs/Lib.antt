@@ -2,3 +2,5 @@ pub mod Between
 pub mod Ramped
 pub mod Decided
 pub mod Loops
+pub mod Sharing
+pub mod Packing

@@ -28,9 +28,13 @@ ramped_input n f ramps x = record x { stream = ramped n f (ramps_at x.index ramp
 abbrev pub ramped_inputs : ℕ → ℕ → List InputRamps → List Input → List Input
 ramped_inputs n f ramps inputs = map (ramped_input n f ramps) inputs
 
+-- the ramped mix of inputs that stand at frame h, k frames ahead
+abbrev pub ramp_frame : Samples → ℕ → ℕ → List InputRamps → SampleSpec → List Input → ℕ → Frame
+ramp_frame samples n h ramps spec inputs k = mix_of samples spec (streams_of (ramped_inputs n (h + k) ramps inputs)) k
+
 -- the ramped mix k frames past a sink's horizon
 abbrev pub ramp_mixed : Samples → ℕ → List InputRamps → Sink → ℕ → Frame
-ramp_mixed samples n ramps sink k = mix_of samples sink.spec (streams_of (ramped_inputs n (sink.horizon + k) ramps sink.inputs)) k
+ramp_mixed samples n ramps sink k = ramp_frame samples n sink.horizon ramps sink.spec sink.inputs k
 
 -- a sink, and the ramps of its inputs
 pub record RampSink : Type 0 where

@@ -3,10 +3,12 @@
 #![tactic(auto)]
 
 mod laws;
+mod mixing;
 mod ramp;
 mod ramps;
 mod table;
 mod rows;
+mod shares;
 
 pub use laws::{
     ramped_frames_are_decided, ramped_turn_is_the_plain_one, ramps_go_from_start_to_end,
