@@ -6,14 +6,14 @@ mod laws;
 mod mixing;
 mod ramp;
 mod ramps;
-mod table;
 mod rows;
 mod shares;
+mod table;
 
 pub use laws::{
     ramped_frames_are_decided, ramped_turn_is_the_plain_one, ramps_go_from_start_to_end,
 };
 pub use ramp::Ramp;
 pub use ramps::{InputRamps, Ramps};
-pub use table::RampTable;
 pub use rows::worked_ramps;
+pub use table::RampTable;

@@ -161,7 +161,9 @@ pub(crate) fn mix_frames<T: Ledger>(
 {
     for k in 0..count {
         let at = horizon + k as u64;
-        mix_frame(cache, values, sink, inputs, table, frames, at, k, frame, steps);
+        mix_frame(
+            cache, values, sink, inputs, table, frames, at, k, frame, steps,
+        );
         append(bytes, frame);
     }
 }

@@ -84,7 +84,12 @@ impl Ramps {
         requires { 1 ≤ frames }
         ensures { self.new ≡ all_aimed frames at factors.now self.old }
     {
-        aim_each(&mut self.items[..self.count as usize], frames, at, factors.values());
+        aim_each(
+            &mut self.items[..self.count as usize],
+            frames,
+            at,
+            factors.values(),
+        );
     }
 
     /// The factors at frame `at`, where a ramp takes `frames` frames.
