@@ -4,3 +4,4 @@ pub mod Decided
 pub mod Loops
 pub mod Sharing
 pub mod Packing
+pub mod Taking

@@ -120,9 +120,9 @@ fn mix_frame<T: Ledger>(
     cache.advance(1);
 }
 
-/// Mixes `count` frames of the inputs, which stand at frame `horizon`, by their ramps, and appends them to `bytes`. `frame` is scratch for one frame.
-/// `cache` holds no frame before and after.
-pub(crate) fn mix_frames<T: Ledger>(
+// Mixes `count` frames of the inputs, which stand at frame `horizon`, by their ramps, and appends them to `bytes`. `frame` is scratch for one frame.
+// `cache` holds no frame before and after.
+fn mix_frames<T: Ledger>(
     cache: &mut MixCache,
     values: &mut [i32],
     frame: &mut [u8],
@@ -166,4 +166,58 @@ pub(crate) fn mix_frames<T: Ledger>(
         );
         append(bytes, frame);
     }
+}
+
+/// Mixes `count` frames of the inputs, which stand at frame `horizon`, by their ramps, and appends them to `bytes`. `values` and `frame` are scratch for
+/// one frame. `cache` holds no frame before and after. Takes no memory.
+pub(crate) fn mix_into<T: Ledger>(
+    cache: &mut MixCache,
+    values: &mut Vec<i32>,
+    frame: &mut Vec<u8>,
+    sink: &Spec,
+    inputs: &[Input],
+    table: &RampTable,
+    frames: u32,
+    horizon: u64,
+    count: u32,
+    bytes: &mut Vec<u8>,
+    steps: &mut Steps<T>,
+)
+    requires ramp { 1 ≤ frames }
+    requires linear { IsLinear sink.now.format }
+    requires channels { length cache.old.runs ≡ sink.now.channels }
+    requires some { 1 ≤ sink.now.channels }
+    requires none { cache.old.frames ≡ 0 }
+    requires deep { 1 ≤ cache.old.depth }
+    requires fed { AreFed sink.now.channels (inputs_of inputs.now) }
+    requires few { length (inputs_of inputs.now) ≤ 256 }
+    requires wide { AreWide sink.now.channels table.now.ramps }
+    requires size { length values.old.items ≡ sink.now.channels }
+    requires words { All (FitsSigned w32) values.old.items }
+    requires whole { length frame.old.items ≡ frame_size_of sink.now }
+    requires low { count ≤ 65536 }
+    requires countable { horizon ≤ 2 ^ 61 }
+    requires room { length bytes.old.items + count * frame_size_of sink.now ≤ vec_capacity bytes.old }
+    ensures size { length values.new.items ≡ length values.old.items }
+    ensures words { All (FitsSigned w32) values.new.items }
+    ensures none { cache.new.frames ≡ 0 }
+    ensures depth { cache.new.depth ≡ cache.old.depth }
+    ensures channels { length cache.new.runs ≡ length cache.old.runs }
+    ensures whole { length frame.new.items ≡ length frame.old.items }
+    ensures capacity { vec_capacity bytes.old ≤ vec_capacity bytes.new }
+    ensures bytes { bytes.new.items ≡ bytes.old.items ++ concat (map (ramp_frame samples frames horizon table.now.ramps (sample_spec sink.now) (inputs_of inputs.now)) (range_with_len 0 count)) }
+{
+    mix_frames(
+        cache,
+        values.as_mut_slice(),
+        frame.as_mut_slice(),
+        sink,
+        inputs,
+        table,
+        frames,
+        horizon,
+        count,
+        bytes,
+        steps,
+    );
 }

@@ -1,11 +1,12 @@
 // The ramps of all inputs of a sink.
-ghost use Rattle.std.specs.Prelude.{◌≡◌, ◌≤◌, ◌<◌, ◌+◌, ◌-◌, [], length, map, vec_len, vec_capacity, OnOk};
+ghost use Rattle.std.specs.Prelude.{◌≡◌, ◌≤◌, ◌<◌, ◌+◌, ◌-◌, [], length, map, drop, vec_len, vec_capacity, OnOk};
 ghost use Rattle.std.specs.Option.{option_map};
 ghost use Rattle.px_msg.specs.View.{gains, message_of};
 ghost use Rattle.px_stream.specs.HeldStream.{HeldStream};
-ghost use Rattle.px_ramp.specs.Ramp.{ramps_at, without_ramps, with_flat, with_aim, with_aims, ramps_with};
+ghost use Rattle.px_ramp.specs.Ramp.{ramps_at, without_ramps, with_flat, with_aim, with_aims, ramps_with, ramps_with_all};
 
 use crate::ramps::{InputRamps, Ramps};
+use px_lane::Prepared;
 use px_msg::{InputFactors, Msg};
 use px_stream::Stream;
 use px_types::{Mem, NoMemory};
@@ -126,5 +127,42 @@ impl RampTable {
             Msg::Factors(list) => aim_all(self.items.as_mut_slice(), frames, at, list.as_slice()),
             _ => {}
         }
+    }
+}
+
+// Applies message `i` of these, if it is there.
+fn take_at(table: &mut RampTable, messages: &Prepared, i: usize, frames: u32, at: u64)
+    requires some { 1 ≤ frames }
+    requires room { 1 ≤ table.old.room }
+    ensures ramps { ramps_with_all frames at (drop (i + 1) messages.now.messages) table.new.ramps ≡ ramps_with_all frames at (drop i messages.now.messages) table.old.ramps }
+    ensures room { table.old.room ≤ table.new.room + 1 }
+{
+    match messages.get(i) {
+        Some(message) => table.take(message, frames, at),
+        None => {}
+    }
+}
+
+// Applies all `count` messages, in order.
+fn take_each(table: &mut RampTable, messages: &Prepared, count: usize, frames: u32, at: u64)
+    requires some { 1 ≤ frames }
+    requires count { count ≡ length messages.now.messages }
+    requires room { count ≤ table.old.room }
+    ensures ramps { table.new.ramps ≡ ramps_with_all frames at messages.now.messages table.old.ramps }
+{
+    for i in 0..count {
+        take_at(table, messages, i, frames, at);
+    }
+}
+
+impl RampTable {
+    /// Applies all `count` messages, in order, that a sink takes at horizon `at`, where a ramp takes `frames` frames. Takes no memory.
+    pub(crate) fn take_all(&mut self, messages: &Prepared, count: usize, frames: u32, at: u64)
+        requires some { 1 ≤ frames }
+        requires count { count ≡ length messages.now.messages }
+        requires room { count ≤ self.old.room }
+        ensures ramps { self.new.ramps ≡ ramps_with_all frames at messages.now.messages self.old.ramps }
+    {
+        take_each(self, messages, count, frames, at);
     }
 }
