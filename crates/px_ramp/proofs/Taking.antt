@@ -1,15 +1,13 @@
 -- The messages of a turn, taken one by one, and how wide ramps stay.
-use Rattle.std.proofs.Common.{◌≡◌, ℕ, zero, suc, ◌+◌, ◌<◌, ◌≤◌, List, [], ◌∷◌, ◌++◌, length, map, take, drop, Bool, true, false, cond, Option, Some, None, refl, ap, sym, ◌∙◌, subst, arith, length-drop}
-use Rattle.std.specs.Prelude.{slice_get, not, ◌==◌, filter}
-use Rattle.std.specs.List.{AllByRecursion}
-use Rattle.std.proofs.lemmas.Bool.{cond_both, cond-true, cond-false}
+use Rattle.std.proofs.Common.{◌≡◌, ℕ, zero, suc, ◌+◌, ◌≤◌, List, [], ◌∷◌, ◌++◌, length, map, drop, Some, None, ap, sym, ◌∙◌, arith}
+use Rattle.std.specs.Prelude.{slice_get, not, ◌==◌}
+use Rattle.std.proofs.lemmas.Bool.{cond_both}
 use Rattle.std.proofs.lemmas.List.{length-map, drop_all}
 use Rattle.std.proofs.lemmas.Option.{none-some, same_Some}
 use Rattle.px_model.specs.Frame.{SampleSpec}
 use Rattle.px_model.specs.Stream.{Stream}
 use Rattle.px_model.specs.Message.{Message, InputFactors}
 use Rattle.px_model.specs.Orderly.{Inputs, IsOrderly, Fits, inputs_left}
-use Rattle.px_ramp.specs.declared.ramp.Ramp.{Ramp}
 use Rattle.px_ramp.specs.declared.ramps.InputRamps.{InputRamps}
 use Rattle.px_ramp.specs.Ramp.{flat, all_aimed, without_ramps, with_flat, with_aim, with_aims, ramps_with, ramps_with_all}
 use Rattle.px_ramp.specs.Table.{AreWide}
