@@ -1,6 +1,6 @@
-//! A sink whose volumes change by ramps: a factor goes evenly to its new number over a number of frames, from the horizon on. `ramp` has a ramp, `ramps`
-//! those of an input, `table` those of all inputs of a sink, `shares` a stream's share of a frame by factors of its own, `mixing` the frames mixed by
-//! them, `buffer` the bytes of a sink, `rows` worked examples, `laws` the laws of ramped turns and of the deciding turn.
+//! A sink whose volumes change by ramps: a factor goes evenly to its new number over a number of frames, from the horizon on. `ramp` has a ramp,
+//! `ramps` those of an input, `table` those of all inputs of a sink, `shares` a stream's share of a frame by factors of its own, `mixing` the frames
+//! mixed by them, `buffer` the bytes of a sink, `rows` worked examples, `laws` the laws of ramped turns and of the deciding turn.
 #![tactic(auto)]
 
 mod buffer;
