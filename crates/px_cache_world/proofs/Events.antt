@@ -90,21 +90,21 @@ module _ (s : Sampler) (parts : Parts) (outcome : Outcome) where
     stands = l.stands;
   }
 
-  module _ (conn : ConnId) (open : false ≡ is_hidden conn) where
+  module _ (conn : ConnId) (other : false ≡ is_hidden conn) where
     pub connect-done : HasLone parts s (Connect conn) outcome → HasDone parts s (Connect conn) outcome
     connect-done l = record {
-      done = record { admitted = refused-other conn Live (refusal_of s.world (Connect conn)) open ∙ l.admitted; effects = l.effects; frames = l.frames; played = l.played; stopped = l.stopped };
+      done = record { admitted = refused-other conn Live (refusal_of s.world (Connect conn)) other ∙ l.admitted; effects = l.effects; frames = l.frames; played = l.played; stopped = l.stopped };
       stands = l.stands;
     }
 
     pub cut-done : HasLone parts s (Cut conn) outcome → HasDone parts s (Cut conn) outcome
     cut-done l = record {
-      done = record { admitted = refused-other conn NotLive (refusal_of s.world (Cut conn)) open ∙ l.admitted; effects = l.effects; frames = l.frames; played = l.played; stopped = l.stopped };
+      done = record { admitted = refused-other conn NotLive (refusal_of s.world (Cut conn)) other ∙ l.admitted; effects = l.effects; frames = l.frames; played = l.played; stopped = l.stopped };
       stands = l.stands;
     }
 
     pub close-done : (later : Parts) → HasLone parts s (Close conn) outcome → StandsForSampler later (forgotten conn (after_lone s (Close conn))) → HasDone later s (Close conn) outcome
     close-done later l stands = record {
-      done = record { admitted = refused-other conn NotLive (refusal_of s.world (Close conn)) open ∙ l.admitted; effects = l.effects; frames = l.frames; played = l.played; stopped = l.stopped };
+      done = record { admitted = refused-other conn NotLive (refusal_of s.world (Close conn)) other ∙ l.admitted; effects = l.effects; frames = l.frames; played = l.played; stopped = l.stopped };
       stands = stands;
     }

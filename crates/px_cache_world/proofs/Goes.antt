@@ -48,7 +48,7 @@ piece-world s conn piece = ap (λ w. world_by w (inner (piece_items s conn piece
 
 -- ---- what the streams that are deleted change: the world
 
-delete-world : (due : List ℕ) (s : Sampler) → (after_delete_of due s).world ≡ world_by s.world (inner (delete_items_of due))
+pub delete-world : (due : List ℕ) (s : Sampler) → (after_delete_of due s).world ≡ world_by s.world (inner (delete_items_of due))
 delete-world [] s = refl
 delete-world (stream ∷ due) s = refl
 

@@ -275,18 +275,18 @@ apart conn other link is =
 
 event-keeps : (s : Sampler) (e : Event) → sampler_refusal s e ≡ None → IsConnected s.world → Keeps s.world (items s e)
 event-keeps s (Connect conn) lawful connected =
-    let open = not-hidden conn Live (refusal_of s.world (Connect conn)) lawful in
-    lone-keeps s (Connect conn) open.1 (more-named HIDDEN s.world.links (record { conn = conn; received = [] }) connected)
+    let other = not-hidden conn Live (refusal_of s.world (Connect conn)) lawful in
+    lone-keeps s (Connect conn) other.1 (more-named HIDDEN s.world.links (record { conn = conn; received = [] }) connected)
 event-keeps s (Bytes conn bytes) lawful connected =
-    let open = not-hidden conn NotLive (refusal_of s.world (Bytes conn bytes)) lawful in
-    let all = segments-admit (hearing s conn bytes) conn (to_hand_out (hearing s conn bytes) conn) open.1 connected in
+    let other = not-hidden conn NotLive (refusal_of s.world (Bytes conn bytes)) lawful in
+    let all = segments-admit (hearing s conn bytes) conn (to_hand_out (hearing s conn bytes) conn) other.1 connected in
     record { admitted = all.admitted; connected = all.connected }
 event-keeps s (Close conn) lawful connected =
-    let open = not-hidden conn NotLive (refusal_of s.world (Close conn)) lawful in
-    lone-keeps s (Close conn) open.1 (others-named HIDDEN conn s.world.links (apart conn open.0) connected)
+    let other = not-hidden conn NotLive (refusal_of s.world (Close conn)) lawful in
+    lone-keeps s (Close conn) other.1 (others-named HIDDEN conn s.world.links (apart conn other.0) connected)
 event-keeps s (Cut conn) lawful connected =
-    let open = not-hidden conn NotLive (refusal_of s.world (Cut conn)) lawful in
-    lone-keeps s (Cut conn) open.1 connected
+    let other = not-hidden conn NotLive (refusal_of s.world (Cut conn)) lawful in
+    lone-keeps s (Cut conn) other.1 connected
 event-keeps s (Turn sink frames n) lawful connected = lone-keeps s (Turn sink frames n) lawful connected
 event-keeps s (Collect sink n) lawful connected = lone-keeps s (Collect sink n) lawful connected
 event-keeps s (Stop sink) lawful connected = lone-keeps s (Stop sink) lawful connected

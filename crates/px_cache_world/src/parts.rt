@@ -1,17 +1,18 @@
 //! The parts of a world with a sample cache, and what they do with the bytes of connections.
 
-ghost use Rattle.std.specs.Prelude.{◌≡◌, ◌≤◌, [], ◌∷◌, ◌++◌, true, length, IfOk, OnOk};
+ghost use Rattle.std.specs.Prelude.{◌≡◌, ◌<◌, ◌^◌, [], ◌∷◌, length, IfOk, OnOk};
 ghost use Rattle.px_session.specs.declared.event.Event.TheVariants.{Bytes};
-ghost use Rattle.px_state.specs.Effect.{fault_code, fault_place, sending};
+ghost use Rattle.px_state.specs.Effect.{fault_code, fault_place};
 ghost use Rattle.px_world.specs.World.{World as SpecWorld};
-ghost use Rattle.px_world.specs.Event.{world_after, effects_after};
+ghost use Rattle.px_world.specs.Output.{world_by};
 ghost use Rattle.px_world.specs.Running.{StandsFor as WorldStands};
 ghost use Rattle.px_frame.specs.Frame.{IsBody};
 ghost use Rattle.px_sieve.specs.declared.piece.Piece.TheVariants.{Own, Write};
-ghost use Rattle.px_sieve.specs.Scene.{shifted, shown_by};
+ghost use Rattle.px_sieve.specs.Scene.{inner, shown_by};
 ghost use Rattle.px_sieve.specs.Standing.{IsPossiblePiece, left_in};
 ghost use Rattle.px_scache.specs.Answers.{CanBeSent};
-ghost use Rattle.px_cache_world.specs.Sampler.{Sampler, shift_by, packet_of, zero_length, passed_on, is_taken, uploaded, answered_by, answer_items, handled_in, piece_items, running_on, store_seen, seeing, delete_items, settle_items, settled, with_piece, segment_items, sampler_after, items, StandsForSampler};
+ghost use Rattle.px_cache_world.specs.Sampler.{Sampler, shift_by, packet_of, zero_length, passed_on, is_taken, uploaded, fault_items, answer_items, course_after, handled_in, piece_items, running_on, store_seen, seeing, settle_items, settled, whole_items, after_whole, sampler_after, items, StandsForSampler};
+ghost use Rattle.px_cache_world.specs.Course.{course_seen};
 
 use crate::answered::tag_in;
 use crate::course::Course;

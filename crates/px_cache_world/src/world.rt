@@ -1,18 +1,18 @@
 //! The world with a sample cache.
 
-ghost use Rattle.std.specs.Prelude.{◌≡◌, ◌≢◌, IfOk, OnOk, Err, Some};
+ghost use Rattle.std.specs.Prelude.{◌≡◌, ◌≢◌, ◌++◌, IfOk, OnOk, Err, Some};
 ghost use Rattle.px_header.specs.HeaderRules.{IsHeader};
 ghost use Rattle.px_session.specs.declared.event.Event.TheVariants.{Connect, Bytes, Close, Cut};
-ghost use Rattle.px_state.specs.declared.effect.Effect.{Effect};
 ghost use Rattle.px_world.specs.World.{World as SpecWorld, new_world};
 ghost use Rattle.px_world.specs.Admission.{refusal_of};
 ghost use Rattle.px_world.specs.Event.{world_after};
 ghost use Rattle.px_world.specs.Output.{world_by};
+ghost use Rattle.px_sieve.specs.Scene.{shown_by};
 ghost use Rattle.px_world.specs.Parts.{loses, Answered};
 ghost use Rattle.px_world.specs.Running.{StandsFor as WorldStands};
 ghost use Rattle.px_world.specs.declared.fault.WorldFault.{WorldFault};
 ghost use Rattle.px_world.specs.declared.fault.WorldFault.TheVariants.{NoMemory};
-ghost use Rattle.px_cache_world.specs.Sampler.{Sampler, new_sampler, greeting, sampler_refusal, sampler_after, open_effects, StandsForSampler};
+ghost use Rattle.px_cache_world.specs.Sampler.{Sampler, new_sampler, greeting, sampler_refusal, sampler_after, seeing, settle_items, settled, open_effects, StandsForSampler};
 ghost use Rattle.px_cache_world.specs.CacheOutcome.{IsCacheOutcome, HasLone, HasDone};
 
 use crate::course::Course;
