@@ -10,10 +10,9 @@ mod rest;
 mod segment;
 mod shift;
 mod sieve;
-mod spelling;
 
 pub use law::scenes_join;
 pub use piece::Piece;
+pub use px_world::spelled;
 pub use shift::{Shift, shifted};
 pub use sieve::Sieve;
-pub use spelling::spelled;

@@ -11,7 +11,7 @@ ghost use Rattle.px_sieve.specs.Standing.{Hears, Adds, IsPossible};
 
 use crate::rest::{Rest, go_on};
 use crate::segment::Segment;
-use px_block::Fresh;
+use px_block::BlockSource;
 use px_frame::{Decoder, Frame, FrameError, FrameFault, Frames};
 use px_types::{ConnId, Mem, NoMemory, Text};
 use std::alloc::Global;
@@ -107,14 +107,18 @@ fn add_given(
 }
 
 /// The next bytes of the connection arrive. After an `Err` it isn't used again.
-pub(crate) fn hear(line: &mut Line, alloc: Global, bytes: &[u8]) -> Mem<()>
+pub(crate) fn hear<B: BlockSource>(
+    line: &mut Line,
+    alloc: Global,
+    bytes: &[u8],
+    blocks: &mut B,
+) -> Mem<()>
     requires { AllByRecursion IsPossible line.old.waiting.items }
     ensures hears { OnOk result ((h : Heard) → Hears line.old h → Hears line.new (heard_more bytes.now h)) }
     ensures possible { AllByRecursion IsPossible line.new.waiting.items }
     ensures same { line.new.conn ≡ line.old.conn }
 {
-    let mut blocks = Fresh::new(alloc);
-    let given = line.decoder.feed(bytes, &mut blocks);
+    let given = line.decoder.feed(bytes, blocks);
     add_given(alloc, &mut line.rest, &mut line.waiting, bytes, given)?;
     Ok(())
 }

@@ -11,6 +11,7 @@ ghost use Rattle.px_sieve.specs.Standing.{StandsFor, AreHeard, ArePossible, is_l
 use crate::line::{Line, hear, take_first, unheard};
 use crate::piece::{Piece, asks, is_reply, sort};
 use crate::segment::Segment;
+use px_block::BlockSource;
 use px_frame::Packet;
 use px_state::{Effect, Effects};
 use px_types::{ConnId, Mem};
@@ -46,7 +47,13 @@ fn place_of(lines: &[Line], conn: ConnId) -> Option<usize>
 }
 
 // The next bytes of connection `conn` arrive.
-fn hear_on(lines: &mut Vec<Line>, alloc: Global, conn: ConnId, bytes: &[u8]) -> Mem<()>
+fn hear_on<B: BlockSource>(
+    lines: &mut Vec<Line>,
+    alloc: Global,
+    conn: ConnId,
+    bytes: &[u8],
+    blocks: &mut B,
+) -> Mem<()>
     requires { ArePossible lines.old.items }
     ensures heard { OnOk result ((heard : List Heard) → AreHeard lines.old.items heard
         → AreHeard lines.new.items (heard_by (heard_of heard conn) conn bytes.now heard)) }
@@ -54,12 +61,12 @@ fn hear_on(lines: &mut Vec<Line>, alloc: Global, conn: ConnId, bytes: &[u8]) -> 
 {
     match place_of(lines.as_slice(), conn) {
         Some(place) => {
-            hear(&mut lines[place], alloc, bytes)?;
+            hear(&mut lines[place], alloc, bytes, blocks)?;
             Ok(())
         }
         None => {
             let mut line = unheard(alloc, conn);
-            hear(&mut line, alloc, bytes)?;
+            hear(&mut line, alloc, bytes, blocks)?;
             lines.push(line)?;
             Ok(())
         }
@@ -182,11 +189,18 @@ impl Sieve {
         })
     }
 
-    /// The next bytes of a connection arrive, in whatever pieces they come. After an `Err` the sieve isn't used again.
-    pub fn pass(&mut self, alloc: Global, conn: ConnId, bytes: &[u8]) -> Mem<()>
+    /// The next bytes of a connection arrive, in whatever pieces they come: sound is copied into blocks of `blocks`. After an `Err` the
+    /// sieve isn't used again.
+    pub fn pass<B: BlockSource>(
+        &mut self,
+        alloc: Global,
+        conn: ConnId,
+        bytes: &[u8],
+        blocks: &mut B,
+    ) -> Mem<()>
         ensures { OnOk result ((s : SpecSieve) → StandsFor self.old s → StandsFor self.new (pass s conn bytes.now)) }
     {
-        hear_on(&mut self.lines, alloc, conn, bytes)
+        hear_on(&mut self.lines, alloc, conn, bytes, blocks)
     }
 
     /// Hands out the next piece of a connection's bytes; `None` where none is left. What the piece makes is given to `seen` before the

@@ -26,3 +26,4 @@ pub mod Turning
 pub mod Joining
 pub mod Stopping
 pub mod Sweeping
+pub mod Passing

@@ -3,6 +3,8 @@
 ghost use Rattle.std.specs.Prelude.{◌≡◌, ℕ, List, IfOk, IfSome, OnOk, None, Some};
 ghost use Rattle.std.specs.List.{position};
 ghost use Rattle.std.specs.Option.{option_to_list};
+ghost use Rattle.px_frame.specs.Frame.{IsBody};
+ghost use Rattle.px_frame.specs.Spelling.{spelling_of};
 ghost use Rattle.px_session.specs.declared.event.Event.TheVariants.{Connect, Bytes, Close, Cut};
 ghost use Rattle.px_state.specs.Effect.{IsSendable};
 ghost use Rattle.px_world.specs.World.{World, Mixer};
@@ -12,10 +14,11 @@ ghost use Rattle.px_world.specs.declared.doors.Door.{Door};
 ghost use Rattle.px_world.specs.Parts.{Does, Answered, IsRefused};
 
 use crate::WorldFault;
-use crate::doors::{Door, add, drop_at, feed, place_of};
+use crate::doors::{Door, add, drop_at, feed, feed_frame, place_of};
 use crate::spares::Spares;
 use crate::stepping::{WorldCore, swept, take_given};
 use px_core::{Effect, Effects};
+use px_frame::Frame;
 use px_types::{ConnId, Mem, Text};
 use std::alloc::Global;
 
@@ -103,6 +106,47 @@ pub(crate) fn bytes(
     let done = receive(core, doors, alloc, conn, text.as_slice(), spares);
     spares.reclaim_text(text);
     done
+}
+
+// A frame arrives for the door at `place`.
+fn hear_frame(
+    core: &mut WorldCore,
+    doors: &mut [Door],
+    alloc: Global,
+    conn: ConnId,
+    place: usize,
+    frame: Frame,
+    spares: &mut Spares,
+) -> Mem<Effects>
+    requires there { position (is_door conn) doors.old ≡ Some place }
+    requires body { IsBody frame.body }
+    ensures done { IfOk result (λ effects. (w : World) → Open doors.old w.links → AreDistinct w.links → Does core.old.state core.new.state doors.new w (Bytes conn (spelling_of frame.body)) effects) }
+    ensures consistent { OnOk result ((mixers : List Mixer) → AreConsistent core.old.state mixers → AreConsistent core.new.state mixers) }
+{
+    let given = feed_frame(doors, alloc, place, frame, spares);
+    let first = take_given(core, alloc, conn, given)?;
+    let effects = swept(core, first)?;
+    Ok(effects)
+}
+
+/// A frame arrives from a client, as its spelling would.
+pub(crate) fn frame(
+    core: &mut WorldCore,
+    doors: &mut [Door],
+    alloc: Global,
+    conn: ConnId,
+    frame: Frame,
+    spares: &mut Spares,
+) -> Result<Effects, WorldFault>
+    requires { IsBody frame.body }
+    ensures done { (w : World) → Open doors.old w.links → AreDistinct w.links → Answered result (Does core.old.state core.new.state doors.new w (Bytes conn (spelling_of frame.body))) (IsRefused w (Bytes conn (spelling_of frame.body))) }
+    ensures stays { Answered result (λ _. Unit {0}) (λ _. (core.new.state ≡ core.old.state) × (doors.new ≡ doors.old)) }
+    ensures consistent { OnOk result ((mixers : List Mixer) → AreConsistent core.old.state mixers → AreConsistent core.new.state mixers) }
+{
+    match place_of(doors, conn) {
+        None => Err(WorldFault::NotLive),
+        Some(place) => Ok(hear_frame(core, doors, alloc, conn, place, frame, spares)?),
+    }
 }
 
 // The client of the door at `place` has closed its connection.

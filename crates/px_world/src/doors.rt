@@ -1,17 +1,20 @@
 //! The doors of a world: each connection's number with the decoder of its client's bytes.
 
-ghost use Rattle.std.specs.Prelude.{◌≡◌, ◌≢◌, ℕ, ◌<◌, List, [], ◌∷◌, ◌++◌, IfOk, OnOk, OnErr, Some, length};
+ghost use Rattle.std.specs.Prelude.{◌≡◌, ◌≢◌, ℕ, ◌<◌, List, [], ◌∷◌, ◌++◌, IfOk, OnOk, OnErr, None, Some, Ok, length};
 ghost use Rattle.std.specs.List.{position, remove, slice_get};
 ghost use Rattle.std.specs.Option.{is_some};
 ghost use Rattle.px_types.specs.declared.ids.ConnId.{ConnId};
+ghost use Rattle.px_frame.specs.Frame.{IsBody};
 ghost use Rattle.px_frame.specs.Progress.{Within, GivesBodies};
+ghost use Rattle.px_frame.specs.Spelling.{spelling_of};
 ghost use Rattle.px_session.specs.declared.event.Event.TheVariants.{Connect, Bytes, Close};
 ghost use Rattle.px_world.specs.World.{Link, link_of, received_of};
 ghost use Rattle.px_world.specs.Event.{bytes_steps, links_after};
 ghost use Rattle.px_world.specs.Running.{is_door, Open, AreDistinct, IsAnswered, steps_given};
 
+use crate::spelling::spelled;
 use px_block::BlockSource;
-use px_frame::{Decoder, FrameError, Frames};
+use px_frame::{Body, Decoder, Frame, FrameError, Frames};
 use px_types::{ConnId, Mem};
 use std::alloc::Global;
 
@@ -58,6 +61,64 @@ pub(crate) fn feed<B: BlockSource>(
     ensures others { (i : ℕ) → i ≢ place → slice_get doors.new i ≡ slice_get doors.old i }
 {
     doors[place].decoder.feed(bytes, blocks)
+}
+
+// Passes over a frame of the client of the door at `place`, where its decoder stands between two frames, and gives the offset of its payload.
+// Takes no memory.
+fn pass_over(doors: &mut [Door], place: usize, body: &Body) -> Option<u64>
+    requires place { place < length doors.old }
+    requires body { IsBody body.now }
+    ensures steps { (at : ℕ) (conn : ConnId) (links : List Link) → result ≡ Some at
+        → position (is_door conn) doors.old ≡ Some place → Open doors.old links
+        → bytes_steps conn (received_of (link_of links conn)) (spelling_of body.now) ≡ steps_given conn (Ok (record { at = at; body = body.now } ∷ [])) }
+    ensures opened { (at : ℕ) (conn : ConnId) (links : List Link) → result ≡ Some at
+        → position (is_door conn) doors.old ≡ Some place → Open doors.old links → AreDistinct links
+        → Open doors.new (links_after links (Bytes conn (spelling_of body.now))) }
+    ensures none { result ≡ None → doors.new ≡ doors.old }
+{
+    doors[place].decoder.pass_over(body)
+}
+
+// The one frame that was passed over, with the offset of its payload.
+fn one(alloc: Global, at: u64, body: Body) -> px_block::Mem<Frames>
+    ensures { IfOk result (λ frames. frames ≡ record { at = at; body = body } ∷ []) }
+{
+    let mut frames = Frames::new(alloc);
+    frames.push(Frame { at, body })?;
+    Ok(frames)
+}
+
+/// Takes a frame of the client of the door at `place`, as a feed of its spelling would. Where the decoder stands between two frames it passes
+/// over this one; elsewhere the frame is spelled and fed.
+pub(crate) fn feed_frame<B: BlockSource>(
+    doors: &mut [Door],
+    alloc: Global,
+    place: usize,
+    frame: Frame,
+    blocks: &mut B,
+) -> Result<Frames, FrameError>
+    requires place { place < length doors.old }
+    requires body { IsBody frame.body }
+    ensures steps { (conn : ConnId) (links : List Link)
+        → position (is_door conn) doors.old ≡ Some place → Open doors.old links
+        → IsAnswered result
+        → bytes_steps conn (received_of (link_of links conn)) (spelling_of frame.body) ≡ steps_given conn result }
+    ensures opened { (conn : ConnId) (links : List Link)
+        → position (is_door conn) doors.old ≡ Some place → Open doors.old links → AreDistinct links
+        → IsAnswered result
+        → Open doors.new (links_after links (Bytes conn (spelling_of frame.body))) }
+    ensures bodies { GivesBodies result }
+{
+    match pass_over(doors, place, &frame.body) {
+        Some(at) => match one(alloc, at, frame.body) {
+            Ok(frames) => Ok(frames),
+            Err(_) => Err(FrameError::NoMemory),
+        },
+        None => match spelled(alloc, &frame.body) {
+            Ok(text) => feed(doors, place, text.as_slice(), blocks),
+            Err(_) => Err(FrameError::NoMemory),
+        },
+    }
 }
 
 /// Appends a door for a client that connects. Where memory runs out nothing changes.

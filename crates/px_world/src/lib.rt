@@ -1,6 +1,6 @@
 //! The world that a recorded session runs in: the core, a mixer over a device in memory for each sink, and what is under way
 //! between them. An event of the session is one step of it. It exports `World`, `Outcome`, `Frames` and
-//! `WorldFault`, and the laws of its definitions.
+//! `WorldFault`, `Spares` for used blocks, `spelled` for the bytes of a frame, and the laws of its definitions.
 #![tactic(auto)]
 
 mod connections;
@@ -14,6 +14,7 @@ mod playing;
 mod run;
 mod sinks;
 mod spares;
+mod spelling;
 mod stepping;
 mod world;
 
@@ -24,4 +25,6 @@ pub use law::{
     sinks_replay_their_histories, stops_are_events, worked_session,
 };
 pub use outcome::Outcome;
+pub use spares::Spares;
+pub use spelling::spelled;
 pub use world::World;

@@ -2,13 +2,16 @@
 
 ghost use Rattle.std.specs.Prelude.{◌≡◌, map};
 ghost use Rattle.std.specs.List.{AllByRecursion};
+ghost use Rattle.px_frame.specs.Frame.{IsBody};
+ghost use Rattle.px_frame.specs.Spelling.{spelling_of};
+ghost use Rattle.px_session.specs.declared.event.Event.TheVariants.{Bytes};
 ghost use Rattle.px_world.specs.World.{World};
 ghost use Rattle.px_world.specs.Running.{StandsFor};
 ghost use Rattle.px_world.specs.Playing.{mixer_of, IsPlaying};
 ghost use Rattle.px_world.specs.Consistency.{AreConsistent};
 ghost use Rattle.px_world.specs.Parts.{IsSilent, running_of, Answered, IsRefused, Runs};
 
-use crate::connections::{bytes, close, connect, cut};
+use crate::connections::{bytes, close, connect, cut, frame};
 use crate::doors::Door;
 use crate::playing::Playing;
 use crate::sinks::{collect, silence, stop, turn};
@@ -16,7 +19,9 @@ use crate::spares::Spares;
 use crate::stepping::WorldCore;
 use crate::{Outcome, WorldFault};
 use px_core::Effects;
+use px_frame::Frame;
 use px_session::Event;
+use px_types::ConnId;
 use std::alloc::Global;
 
 // The outcome of an event of a connection, which plays nothing and stops no sink.
@@ -32,6 +37,26 @@ fn silent(alloc: Global, done: Result<Effects, WorldFault>) -> Result<Outcome, W
         }),
         Err(fault) => Err(fault),
     }
+}
+
+/// A frame arrives from a client, as its spelling would.
+pub(crate) fn run_frame(
+    core: &mut WorldCore,
+    doors: &mut Vec<Door>,
+    mixers: &[Playing],
+    spares: &mut Spares,
+    alloc: Global,
+    conn: ConnId,
+    arrived: Frame,
+) -> Result<Outcome, WorldFault>
+    requires body { IsBody arrived.body }
+    requires consistent { AreConsistent core.old.state (map mixer_of mixers.now) }
+    ensures done { (w : World) → StandsFor (running_of core.old.state doors.old.items mixers.now) w
+        → Answered result (Runs (running_of core.new.state doors.new.items mixers.now) w (Bytes conn (spelling_of arrived.body))) (IsRefused w (Bytes conn (spelling_of arrived.body))) }
+    ensures rests { Answered result (λ _. Unit {0}) (λ _. (running_of core.new.state doors.new.items mixers.now) ≡ (running_of core.old.state doors.old.items mixers.now)) }
+    ensures consistent { Answered result (λ _. AreConsistent core.new.state (map mixer_of mixers.now)) (λ _. AreConsistent core.new.state (map mixer_of mixers.now)) }
+{
+    silent(alloc, frame(core, doors, alloc, conn, arrived, spares))
 }
 
 /// Does one event.

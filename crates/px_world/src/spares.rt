@@ -6,12 +6,13 @@ use px_block::{Block, BlockSource};
 use px_types::limits::MAX_INPUTS_ON_SINK;
 use px_types::{Mem, Text};
 use std::alloc::Global;
+use std::mem;
 
 /// Used blocks that wait to be used again (PulseAudio: the free list of a `pa_mempool`), at most 256 of them, one for each stream that a sink can
 /// have. A block that is taken is one of these, emptied, or a new one where none waits; one that comes back is held, or dropped where 256 wait. How
 /// many came back isn't visible. Beside them waits the text of a client's last bytes, for the session's reader.
 #[derive(Drop)]
-pub(crate) struct Spares {
+pub struct Spares {
     alloc: Global,
     blocks: Vec<Block>,
     text: Option<Text>,
@@ -25,6 +26,19 @@ impl Spares {
             blocks: Vec::with_capacity(alloc, MAX_INPUTS_ON_SINK)?,
             text: None,
         })
+    }
+
+    /// Takes all that is held, and holds nothing then. Takes no memory.
+    pub(crate) fn take_all(&mut self) -> Spares {
+        let alloc = self.alloc;
+        mem::replace(
+            self,
+            Spares {
+                alloc,
+                blocks: Vec::new(alloc),
+                text: None,
+            },
+        )
     }
 
     /// Holds a text whose bytes are done with, in place of the one before. Takes no memory.

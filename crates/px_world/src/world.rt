@@ -6,6 +6,9 @@ ghost use Rattle.std.specs.Option.{is_some};
 ghost use Rattle.px_header.specs.HeaderRules.{IsHeader, IsSink};
 ghost use Rattle.px_header.specs.declared.header.SinkSpec.{SinkSpec as Spec};
 ghost use Rattle.px_core.specs.Connecting.{version_of};
+ghost use Rattle.px_frame.specs.Frame.{IsBody};
+ghost use Rattle.px_frame.specs.Spelling.{spelling_of};
+ghost use Rattle.px_session.specs.declared.event.Event.TheVariants.{Bytes};
 ghost use Rattle.px_world.specs.World.{World as SpecWorld, new_mixer, new_world, link_of};
 ghost use Rattle.px_world.specs.Admission.{refusal_of};
 ghost use Rattle.px_world.specs.Event.{world_after, change_at, set_to_fail, world_stopping};
@@ -19,12 +22,13 @@ ghost use Rattle.px_world.specs.declared.fault.WorldFault.TheVariants.{NoMemory}
 
 use crate::doors::{Door, is_there};
 use crate::playing::Playing;
-use crate::run::run;
+use crate::run::{run, run_frame};
 use crate::sinks::stop_at;
 use crate::spares::Spares;
 use crate::stepping::WorldCore;
 use crate::{Frames, Outcome, WorldFault};
 use px_core::Core;
+use px_frame::Frame;
 use px_header::{Header, SinkSpec};
 use px_session::Event;
 use px_types::{ConnId, Mem, SinkId, Text};
@@ -130,12 +134,67 @@ impl World {
         }
     }
 
+    /// A whole frame arrives from a client: as an event of the frame's spelling, whose bytes aren't decoded again. The offset in `frame`
+    /// doesn't matter. The faults are those of `event`.
+    pub fn frame(
+        &mut self,
+        alloc: Global,
+        conn: ConnId,
+        frame: Frame,
+    ) -> Result<Outcome, WorldFault>
+        requires { IsBody frame.body }
+        ensures done { (w : SpecWorld) → StandsFor self.old w → IfOk result (λ outcome. IsOutcome outcome w (Bytes conn (spelling_of frame.body))) }
+        ensures after { (w : SpecWorld) → StandsFor self.old w → OnOk result (StandsFor self.new (world_after w (Bytes conn (spelling_of frame.body)))) }
+        ensures refused { (w : SpecWorld) (fault : WorldFault) → StandsFor self.old w → result ≡ Err fault → fault ≢ NoMemory → refusal_of w (Bytes conn (spelling_of frame.body)) ≡ Some fault }
+        ensures unchanged { (fault : WorldFault) → result ≡ Err fault → fault ≢ NoMemory → self.new ≡ self.old }
+    {
+        if self.lost {
+            return Err(WorldFault::NoMemory);
+        }
+        match run_frame(
+            &mut self.core,
+            &mut self.doors,
+            &self.mixers,
+            &mut self.spares,
+            alloc,
+            conn,
+            frame,
+        ) {
+            Ok(outcome) => Ok(outcome),
+            Err(fault) => {
+                self.lost = is_want(fault);
+                Err(fault)
+            }
+        }
+    }
+
     /// Takes the text of the last event that had bytes, which are done with, to be filled again. `None` where there was no such event since the last
     /// call. Takes no memory.
     pub fn used_text(&mut self) -> Option<Text>
         ensures { self.new ≡ self.old }
     {
         self.spares.take_text()
+    }
+
+    /// Holds a text whose bytes are done with, for the next `used_text`. Takes no memory.
+    pub fn reclaim_text(&mut self, text: Text)
+        ensures { self.new ≡ self.old }
+    {
+        self.spares.reclaim_text(text);
+    }
+
+    /// Lends the blocks that streams are done with, for a decoder before this world. The world holds none until they are given back. Takes no memory.
+    pub fn lend_spares(&mut self) -> Spares
+        ensures { self.new ≡ self.old }
+    {
+        self.spares.take_all()
+    }
+
+    /// Takes back the blocks that were lent. Takes no memory.
+    pub fn reclaim_spares(&mut self, spares: Spares)
+        ensures { self.new ≡ self.old }
+    {
+        self.spares = spares;
     }
 
     /// Whether a connection number is in use: from the Connect of it to its Close. Takes no memory.

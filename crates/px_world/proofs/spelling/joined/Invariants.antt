@@ -1,7 +1,7 @@
 use Rattle.std.proofs.Common.{◌≡◌, ◌++◌, drop}
 use Rattle.std.specs.List.{concat}
 use Rattle.px_block.specs.HeldBlock.{contents}
-use Rattle.px_sieve.proofs.spelling.joined.Given as goal
+use Rattle.px_world.proofs.spelling.joined.Given as goal
 
 -- the bytes so far and those of the blocks that are left are all of them
 abbrev pub invariant-loop-block : goal.invariant-loop-block
