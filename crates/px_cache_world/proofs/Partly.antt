@@ -65,7 +65,7 @@ module _ (w : World) (a a' b b' : List ℕ) (one : a ≡ a') (two : b ≡ b') wh
 
 -- ---- a play
 
-module _ (w : World) (p : Play) (frame slice : List ℕ) (first seen : List Effect) (made : Created) (spelled : frame ≡ create_frame NO_STREAM p) (is : first ≡ effects_after w (Bytes HIDDEN frame)) (looked : seen ≡ first)
+module _ (w : World) (p : Play) (frame : List ℕ) (first seen : List Effect) (made : Created) (spelled : frame ≡ create_frame NO_STREAM p) (is : first ≡ effects_after w (Bytes HIDDEN frame)) (looked : seen ≡ first)
 (told : made ≡ created_by seen) where
   pub made-is : made ≡ created w p
   made-is = told ∙ ap created_by (looked ∙ is ∙ ap (λ f. effects_after w (Bytes HIDDEN f)) spelled)

@@ -7,6 +7,7 @@ ghost use Rattle.px_world.specs.World.{World as SpecWorld};
 ghost use Rattle.px_world.specs.Output.{world_by};
 ghost use Rattle.px_world.specs.Running.{StandsFor as WorldStands};
 ghost use Rattle.px_frame.specs.Frame.{IsBody};
+ghost use Rattle.px_frame.specs.Spelling.{spelling_of};
 ghost use Rattle.px_sieve.specs.declared.piece.Piece.TheVariants.{Own, Write};
 ghost use Rattle.px_sieve.specs.Scene.{inner, shown_by};
 ghost use Rattle.px_sieve.specs.Standing.{IsPossiblePiece, left_in};
@@ -16,12 +17,12 @@ ghost use Rattle.px_cache_world.specs.Course.{course_seen};
 
 use crate::answered::tag_in;
 use crate::course::Course;
-use crate::plays::{delete, give, play, reply};
+use crate::plays::{delete, give, give_frame, play, reply};
 use crate::skips::{Skip, skip_more, skipped_of};
 use px_block::Blocks;
 use px_frame::{Body, Frame};
 use px_scache::{Answer, SampleCache};
-use px_sieve::{Piece, Shift, Sieve, spelled};
+use px_sieve::{Piece, Shift, Sieve};
 use px_state::{Effect, Effects};
 use px_tag::TagFault;
 use px_types::{ConnId, Mem, Text};
@@ -147,6 +148,18 @@ fn pass_on(parts: &mut Parts, alloc: Global, conn: ConnId, bytes: Text) -> Mem<E
     Ok(effects)
 }
 
+// A frame is passed on to the world.
+fn pass_frame(parts: &mut Parts, alloc: Global, conn: ConnId, frame: Frame) -> Mem<Effects>
+    requires { IsBody frame.body }
+    ensures effects { IfOk result (λ effects. (s : Sampler) → StandsForSampler parts.old s → effects ≡ shown_by s.world (passed_on s conn (spelling_of frame.body) ∷ [])) }
+    ensures after { OnOk result ((s : Sampler) → StandsForSampler parts.old s → StandsForSampler parts.new (running_on s (passed_on s conn (spelling_of frame.body) ∷ []))) }
+    ensures sieve { parts.new.sieve ≡ parts.old.sieve }
+{
+    let shift = shift_by(conn, skipped_of(parts.skips.as_slice(), conn));
+    let effects = give_frame(&mut parts.world, alloc, conn, frame, shift)?;
+    Ok(effects)
+}
+
 // The bytes of blocks, in one list.
 fn joined(alloc: Global, blocks: &Blocks) -> Mem<Vec<u8>>
     requires { length blocks.now < 2 ^ 64 }
@@ -199,19 +212,18 @@ fn upload(parts: &mut Parts, alloc: Global, conn: ConnId, body: &Body) -> Mem<()
 }
 
 // A data frame is handled.
-fn write(parts: &mut Parts, alloc: Global, conn: ConnId, frame: &Frame) -> Mem<Effects>
-    requires { IsBody frame.now.body }
-    ensures effects { IfOk result (λ effects. (s : Sampler) → StandsForSampler parts.old s → effects ≡ shown_by s.world (piece_items s conn (Write frame.now))) }
+fn write(parts: &mut Parts, alloc: Global, conn: ConnId, frame: Frame) -> Mem<Effects>
+    requires { IsBody frame.body }
+    ensures effects { IfOk result (λ effects. (s : Sampler) → StandsForSampler parts.old s → effects ≡ shown_by s.world (piece_items s conn (Write frame))) }
     ensures after { OnOk result ((s : Sampler) → StandsForSampler parts.old s
-        → StandsForSampler parts.new (running_on (handled_in s conn (Write frame.now)) (piece_items s conn (Write frame.now)))) }
+        → StandsForSampler parts.new (running_on (handled_in s conn (Write frame)) (piece_items s conn (Write frame)))) }
     ensures sieve { parts.new.sieve ≡ parts.old.sieve }
 {
     if is_taken(&parts.store, conn, &frame.body) {
         upload(parts, alloc, conn, &frame.body)?;
         return Ok(Effects::new(alloc));
     }
-    let bytes = spelled(alloc, &frame.body)?;
-    let effects = pass_on(parts, alloc, conn, bytes)?;
+    let effects = pass_frame(parts, alloc, conn, frame)?;
     Ok(effects)
 }
 
@@ -252,8 +264,7 @@ fn make(parts: &mut Parts, alloc: Global, conn: ConnId, piece: Piece) -> Mem<Eff
 {
     match piece {
         Piece::Pass(frame) => {
-            let bytes = spelled(alloc, &frame.body)?;
-            let effects = pass_on(parts, alloc, conn, bytes)?;
+            let effects = pass_frame(parts, alloc, conn, frame)?;
             Ok(effects)
         }
         Piece::Broken(bytes) => {
@@ -261,7 +272,7 @@ fn make(parts: &mut Parts, alloc: Global, conn: ConnId, piece: Piece) -> Mem<Eff
             Ok(effects)
         }
         Piece::Write(frame) => {
-            let effects = write(parts, alloc, conn, &frame)?;
+            let effects = write(parts, alloc, conn, frame)?;
             Ok(effects)
         }
         Piece::Own(frame) => {
@@ -327,7 +338,9 @@ pub(crate) fn hear(parts: &mut Parts, alloc: Global, conn: ConnId, bytes: &[u8])
     ensures effects { IfOk result (λ effects. (s : Sampler) → StandsForSampler parts.old s → effects ≡ shown_by s.world (items s (Bytes conn bytes.now))) }
     ensures after { OnOk result ((s : Sampler) → StandsForSampler parts.old s → StandsForSampler parts.new (sampler_after s (Bytes conn bytes.now))) }
 {
-    parts.sieve.pass(alloc, conn, bytes)?;
+    let mut spares = parts.world.lend_spares();
+    parts.sieve.pass(alloc, conn, bytes, &mut spares)?;
+    parts.world.reclaim_spares(spares);
     let mut effects = Effects::new(alloc);
     while let Some(piece) = parts.sieve.next(conn)? {
         let more = step(parts, alloc, conn, piece)?;

@@ -2,6 +2,8 @@
 
 ghost use Rattle.std.specs.Prelude.{◌≡◌, ◌≢◌, ℕ, [], ◌∷◌, ◌++◌, IfOk, OnOk};
 ghost use Rattle.px_types.specs.declared.limits.TheConstants.{CONTROL_CHANNEL};
+ghost use Rattle.px_frame.specs.Frame.{IsBody};
+ghost use Rattle.px_frame.specs.Spelling.{spelling_of};
 ghost use Rattle.px_session.specs.declared.event.Event.TheVariants.{Bytes};
 ghost use Rattle.px_state.specs.Effect.{sending};
 ghost use Rattle.px_world.specs.World.{World as SpecWorld};
@@ -19,6 +21,7 @@ ghost use Rattle.px_cache_world.specs.Sampler.{own, created, filling, play_items
 use crate::answered::{Created, NO_STREAM, created_by, play_reply};
 use crate::course::Course;
 use crate::own::hidden;
+use px_frame::Frame;
 use px_scache::{Play, drain};
 use px_session::Event;
 use px_sieve::{Shift, shifted};
@@ -40,6 +43,27 @@ pub(crate) fn give(
     ensures after { OnOk result ((w : SpecWorld) → WorldStands world.old w → WorldStands world.new (world_after w (Bytes conn bytes))) }
 {
     match world.event(alloc, Event::Bytes(conn, bytes)) {
+        Ok(outcome) => {
+            let shown = shifted(alloc, shift, outcome.effects)?;
+            Ok(shown)
+        }
+        Err(_) => Err(NoMemory),
+    }
+}
+
+/// The world gets a frame of a connection.
+pub(crate) fn give_frame(
+    world: &mut World,
+    alloc: Global,
+    conn: ConnId,
+    frame: Frame,
+    shift: Shift,
+) -> Mem<Effects>
+    requires { IsBody frame.body }
+    ensures effects { IfOk result (λ effects. (w : SpecWorld) → WorldStands world.old w → effects ≡ shifted shift (effects_after w (Bytes conn (spelling_of frame.body)))) }
+    ensures after { OnOk result ((w : SpecWorld) → WorldStands world.old w → WorldStands world.new (world_after w (Bytes conn (spelling_of frame.body)))) }
+{
+    match world.frame(alloc, conn, frame) {
         Ok(outcome) => {
             let shown = shifted(alloc, shift, outcome.effects)?;
             Ok(shown)
@@ -128,7 +152,8 @@ pub(crate) fn play(
     let mut effects = give_own(world, alloc, frame)?;
     let created = created_by(effects.as_slice());
     let packet = play_reply(alloc, tag, created)?;
-    effects.append(reply(alloc, conn, packet.as_slice())?)?;
+    let answer = reply(alloc, conn, packet.as_slice())?;
+    effects.append(answer)?;
     let more = follow(world, course, alloc, p, created)?;
     effects.append(more)?;
     Ok(effects)

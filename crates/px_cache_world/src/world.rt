@@ -101,7 +101,8 @@ fn followed(parts: &mut Parts, alloc: Global, effects: Effects) -> Mem<Effects>
     see(parts, &effects)?;
     let more = settle(parts, alloc)?;
     effects.append(more)?;
-    open(alloc, effects)
+    let shown = open(alloc, effects)?;
+    Ok(shown)
 }
 
 // An event that the world gets as it is.

@@ -1,4 +1,5 @@
 use Rattle.std.proofs.Common.{rules, ◌≡◌, Some, None, sym, subst, ◌∙◌}
+use Rattle.px_world.specs.Running.{StandsFor as WorldStands}
 use Rattle.px_sieve.specs.Sieve.{next}
 use Rattle.px_cache_world.specs.declared.parts.Parts.{Parts}
 use Rattle.px_cache_world.specs.Sampler.{hearing, handed_out, StandsForSampler}
@@ -9,10 +10,10 @@ pub loop-effects-init : goal.loop-effects-init
 loop-effects-init c = λ s stands.
     let was = c.args.parts.now in
     let start = hearing s c.args.conn c.args.bytes.now in
-    let first : Parts = record { world = was.world; sieve = c.pass.new.self; skips = was.skips; store = was.store; course = was.course } in
+    let first : Parts = record { world = c.reclaim_spares.new.self; sieve = c.pass.new.self; skips = was.skips; store = was.store; course = was.course } in
     subst (λ effects. GoesOn c.args.conn effects first start) (sym c.new-effects.ensures)
     (goes-first c.args.conn first start
-    (record { world = stands.world; sieve = c.in_ok-pass.ensures s.sieve stands.sieve; skips = stands.skips; store = stands.store; course = stands.course }))
+    (record { world = subst (λ w. WorldStands w s.world) (sym (c.reclaim_spares.ensures ∙ c.lend_spares.ensures)) stands.world; sieve = c.in_ok-pass.ensures s.sieve stands.sieve; skips = stands.skips; store = stands.store; course = stands.course }))
 
 pub loop-effects-preserved : goal.loop-effects-preserved
 loop-effects-preserved c = λ s stands.
