@@ -1,5 +1,5 @@
 -- What the parts of a world with a sample cache do, from what each of them does.
-use Rattle.std.proofs.Common.{◌≡◌, ℕ, List, [], ◌∷◌, ◌++◌, ap, sym, subst, ◌∙◌, append-nil}
+use Rattle.std.proofs.Common.{◌≡◌, ℕ, List, [], ◌∷◌, ◌++◌, refl, ap, sym, subst, ◌∙◌, append-nil}
 use Rattle.std.proofs.lemmas.List.{append_assoc}
 use Rattle.px_types.specs.declared.ids.ConnId.{ConnId}
 use Rattle.px_tag.specs.declared.fault.TagFault.{TagFault}
@@ -56,7 +56,7 @@ module _ (w : World) (a a' b b' : List ℕ) (one : a ≡ a') (two : b ≡ b') wh
       let e = effects_after w (Bytes HIDDEN a) in
       let later = world_after w (Bytes HIDDEN a) in
       let base : all ≡ shown_by w (own a ∷ own b ∷ []) =
-      joined ∙ ap (λ l. l ++ more) (is ∙ unshifted e) ∙ ap (λ l. shifted Unshifted e ++ l) (own-shown later b b (ap (λ f. f) (sym two ∙ two)) more then) in
+      joined ∙ ap (λ l. l ++ more) (is ∙ unshifted e) ∙ ap (λ l. shifted Unshifted e ++ l) (own-shown later b b refl more then) in
       subst (λ x. all ≡ shown_by w (own x ∷ own b' ∷ [])) one (subst (λ y. all ≡ shown_by w (own a ∷ own y ∷ [])) two base)
 
   pub both-world : (running : Running) → WorldStands running (world_after (world_after w (Bytes HIDDEN a)) (Bytes HIDDEN b)) → WorldStands running (world_by w (inner (own a' ∷ own b' ∷ [])))
@@ -66,7 +66,7 @@ module _ (w : World) (a a' b b' : List ℕ) (one : a ≡ a') (two : b ≡ b') wh
 -- ---- a play
 
 module _ (w : World) (p : Play) (frame : List ℕ) (first seen : List Effect) (made : Created) (spelled : frame ≡ create_frame NO_STREAM p) (is : first ≡ effects_after w (Bytes HIDDEN frame)) (looked : seen ≡ first)
-(told : made ≡ created_by seen) where
+    (told : made ≡ created_by seen) where
   pub made-is : made ≡ created w p
   made-is = told ∙ ap created_by (looked ∙ is ∙ ap (λ f. effects_after w (Bytes HIDDEN f)) spelled)
 

@@ -1,12 +1,12 @@
 -- The streams that are due are deleted one after the other, until none is due.
 use Rattle.std.proofs.Common.{◌≡◌, ℕ, zero, suc, ◌+◌, ◌<◌, ◌≤◌, Bool, true, false, not, cond, List, [], ◌∷◌, ◌++◌, length, filter, refl, ap, sym, subst, ◌∙◌, append-nil, length-append, arith, ⊎_elim}
-use Rattle.std.specs.Prelude.{nat_eq}
+use Rattle.std.specs.Prelude.{nat_eq, ◌||◌}
 use Rattle.std.specs.List.{list_any}
 use Rattle.std.proofs.lemmas.Bool.{cases_Bool, cond-true, cond-false}
 use Rattle.std.proofs.lemmas.List.{append_assoc}
 use Rattle.px_state.specs.declared.effect.Effect.{Effect}
 use Rattle.px_state.specs.declared.effect.Effect.TheVariants.{Sent, Closed}
-use Rattle.px_sieve.specs.Scene.{shown_by}
+use Rattle.px_sieve.specs.Scene.{Item, shown_by}
 use Rattle.px_sieve.proofs.Scenes.{shown-join}
 use Rattle.px_cache_world.specs.declared.answered.Verdict.{Verdict}
 use Rattle.px_cache_world.specs.declared.answered.Verdict.TheVariants.{Replied, Failed, Other}
@@ -39,7 +39,7 @@ one-fewer stream (one ∷ plays) there =
     (λ (e : nat_eq one stream ≡ false).
     let kept : without stream (one ∷ plays) ≡ one ∷ without stream plays = cond-true (not (nat_eq one stream)) (one ∷ without stream plays) (without stream plays) (ap not e) in
     let size = ap (λ (l : List ℕ). length l) kept in
-    let later = one-fewer stream plays (sym (cond-false (nat_eq one stream) true (is_play stream plays) e) ∙ there) in
+    let later = one-fewer stream plays (sym (ap (λ (b : Bool). b || is_play stream plays) e) ∙ there) in
     omega (arith, size, later))
     (cases_Bool (nat_eq one stream))
 
@@ -120,7 +120,9 @@ module _ (effects longer more : List Effect) (parts later : Parts) (start : Samp
       → Settles longer later start
   settles-next made stands joined = by g.most refl
     where
+      items : List Item
       items = own (delete_frame NO_STREAM stream) ∷ []
+      next : Sampler
       next = after_delete_of (stream ∷ due) g.now
       is : after_delete g.now ≡ next
       is = ap (λ d. after_delete_of d g.now) now-due

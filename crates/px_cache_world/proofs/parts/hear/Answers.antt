@@ -3,7 +3,7 @@ use Rattle.px_world.specs.Running.{StandsFor as WorldStands}
 use Rattle.px_sieve.specs.Sieve.{next}
 use Rattle.px_cache_world.specs.declared.parts.Parts.{Parts}
 use Rattle.px_cache_world.specs.Sampler.{hearing, handed_out, StandsForSampler}
-use Rattle.px_cache_world.proofs.Goes.{GoesOn, goes-first, goes-next, goes-after, not-handed}
+use Rattle.px_cache_world.proofs.Goes.{GoesOn, goes-first, goes-next, goes-shown, goes-after, not-handed}
 use Rattle.px_cache_world.proofs.parts.hear.Goals as goal
 
 pub loop-effects-init : goal.loop-effects-init
@@ -13,7 +13,7 @@ loop-effects-init c = λ s stands.
     let first : Parts = record { world = c.reclaim_spares.new.self; sieve = c.pass.new.self; skips = was.skips; store = was.store; course = was.course } in
     subst (λ effects. GoesOn c.args.conn effects first start) (sym c.new-effects.ensures)
     (goes-first c.args.conn first start
-    (record { world = subst (λ w. WorldStands w s.world) (sym (c.reclaim_spares.ensures ∙ c.lend_spares.ensures)) stands.world; sieve = c.in_ok-pass.ensures s.sieve stands.sieve; skips = stands.skips; store = stands.store; course = stands.course }))
+    (record { world = subst (λ w. WorldStands w s.world) (sym (c.reclaim_spares.ensures ∙ c.lend_spares-spares.ensures)) stands.world; sieve = c.in_ok-pass.ensures s.sieve stands.sieve; skips = stands.skips; store = stands.store; course = stands.course }))
 
 pub loop-effects-preserved : goal.loop-effects-preserved
 loop-effects-preserved c = λ s stands.
@@ -29,6 +29,16 @@ loop-effects-preserved c = λ s stands.
     (c.in_ok-more.ensures.effects out handed)
     (c.in_ok-more.ensures.after out handed)
     c.in_ok-append.ensures.ok
+
+pub returns-clause-effects : goal.returns-clause-effects
+returns-clause-effects c = λ s stands.
+    let conn = c.args.conn in
+    let parts = c.loop-effects.parts in
+    let g = c.loop-effects.invariant s stands in
+    let nothing : c.in_ok-piece.field-0 ≡ None = search rules in
+    let none : None ≡ next g.now.sieve conn = sym nothing ∙ c.in_ok-piece.ensures.piece g.now.sieve g.stands.sieve in
+    let later : Parts = record { world = parts.world; sieve = c.next.new.self; skips = parts.skips; store = parts.store; course = parts.course } in
+    goes-shown conn c.loop-effects.effects parts later (hearing s conn c.args.bytes.now) g none
 
 pub returns-clause-after : goal.returns-clause-after
 returns-clause-after c = λ s stands.

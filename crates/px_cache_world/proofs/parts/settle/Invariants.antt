@@ -6,8 +6,8 @@ use Rattle.px_cache_world.proofs.Settling.{Settles}
 use Rattle.px_cache_world.proofs.parts.settle.Given as goal
 
 -- the streams deleted and those that are due are all of them, and no segment is handed out
-abbrev pub invariant-loop-effects : goal.invariant-loop-effects
-invariant-loop-effects l = ((s : Sampler) → StandsForSampler l.fn.parts s → Settles l.effects l.parts s) × (left_in l.parts.sieve.lines ≡ left_in l.fn.parts.sieve.lines)
+abbrev pub invariant-loop-stream : goal.invariant-loop-stream
+invariant-loop-stream l = ((s : Sampler) → StandsForSampler l.fn.parts s → Settles l.effects l.parts s) × (left_in l.parts.sieve.lines ≡ left_in l.fn.parts.sieve.lines)
 
-abbrev pub decreases-loop-effects : goal.decreases-loop-effects
-decreases-loop-effects l = most_due l.parts.course
+abbrev pub decreases-loop-stream : goal.decreases-loop-stream
+decreases-loop-stream l = most_due l.parts.course
