@@ -36,7 +36,7 @@ use Rattle.px_scache.specs.declared.fields.PlayFields.{PlayFields}
 use Rattle.px_scache.specs.declared.play.Play.{Play}
 use Rattle.px_scache.specs.declared.play.Plays.{Plays}
 use Rattle.px_scache.specs.declared.sample.Sample.{Sample}
-use Rattle.px_scache.specs.Answers.{Store, of_uploads, of_cache, replied, requested, after_head, forgotten as store_forgotten}
+use Rattle.px_scache.specs.Answers.{Store, Done, of_uploads, of_cache, replied, requested, after_head, forgotten as store_forgotten}
 use Rattle.px_scache.specs.Cache.{Cache, Finished, Removed, changed, stored, removed, has_room, has_sample, sample_named, finish, remove}
 use Rattle.px_scache.specs.Command.{meant, request_at, request_after}
 use Rattle.px_scache.specs.Play.{begun, is_volume, volume_of, MOST_PLAYS, is_name, is_clear, played_reply, create_frame, data_frame, drain_frame}
@@ -60,9 +60,13 @@ module _ (conn : ConnId) (plays : Plays) (tag : ℕ) (store : Store) where
   plays-kept (Err (Code code)) = refl
   plays-kept (Err OutOfMemory) = refl
 
-  stores : (sample : Sample) (stream : ℕ) (b : Bool)
-      → (replied tag store ((check b TooLarge >>= λ room. Ok (stored sample store.cache, reply_to tag)) >>= λ done. Ok (record { uploads = without_upload conn stream store.uploads; cache = done.0 }, Packet done.1))).0.cache
-      ≡ fold changed store.cache (cond b (Finished sample ∷ []) [])
+  abbrev storing : Sample → Bool → Handled (Cache × List ℕ)
+  storing sample b = check b TooLarge >>= λ room. Ok (stored sample store.cache, reply_to tag)
+
+  abbrev ending : ℕ → Handled (Cache × List ℕ) → Handled Done
+  ending stream h = h >>= λ done. Ok (record { uploads = without_upload conn stream store.uploads; cache = done.0 }, Packet done.1)
+
+  stores : (sample : Sample) (stream : ℕ) (b : Bool) → (replied tag store (ending stream (storing sample b))).0.cache ≡ fold changed store.cache (cond b (Finished sample ∷ []) [])
   stores sample stream true = refl
   stores sample stream false = refl
 

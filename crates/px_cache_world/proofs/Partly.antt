@@ -4,7 +4,7 @@ use Rattle.std.proofs.lemmas.List.{append_assoc}
 use Rattle.px_types.specs.declared.ids.ConnId.{ConnId}
 use Rattle.px_tag.specs.declared.fault.TagFault.{TagFault}
 use Rattle.px_session.specs.declared.event.Event.{Event}
-use Rattle.px_session.specs.declared.event.Event.TheVariants.{Bytes}
+use Rattle.px_session.specs.declared.event.Event.TheVariants.{Connect, Bytes}
 use Rattle.px_state.specs.declared.effect.Effect.{Effect}
 use Rattle.px_state.specs.Effect.{sending, fault_code, fault_place, offset_behind}
 use Rattle.px_world.specs.World.{World}
@@ -22,11 +22,11 @@ use Rattle.px_scache.specs.Answers.{Store, Done, answer}
 use Rattle.px_scache.specs.Play.{create_frame}
 use Rattle.px_cache_world.specs.declared.answered.Created.{Created}
 use Rattle.px_cache_world.specs.declared.parts.Parts.{Parts}
-use Rattle.px_cache_world.specs.Own.{HIDDEN}
+use Rattle.px_cache_world.specs.Own.{HIDDEN, auth_frame, name_frame}
 use Rattle.px_cache_world.specs.Skips.{skipped_of}
 use Rattle.px_cache_world.specs.Answered.{NO_STREAM, created_by, play_reply}
 use Rattle.px_cache_world.specs.Course.{Course, under_way, with_play}
-use Rattle.px_cache_world.specs.Sampler.{Sampler, own, alone, created, filling, play_items, fault_items, answer_items, answered_by, zero_length, shift_by, passed_on, StandsForSampler}
+use Rattle.px_cache_world.specs.Sampler.{Sampler, greeting, own, alone, created, filling, play_items, fault_items, answer_items, answered_by, zero_length, shift_by, passed_on, StandsForSampler}
 
 -- the effects of one event, and those of an event that is shown as it is
 pub shown-one : (w : World) (e : Event) (shift : Shift) (effects : List Effect) → effects ≡ shifted shift (effects_after w e) → effects ≡ shifted shift (effects_after w e) ++ []
@@ -140,3 +140,14 @@ module _ (s : Sampler) (parts : Parts) (conn : ConnId) (stands : StandsForSample
   passed-shown bytes shift skipped effects by left shown =
       let same : shift ≡ shift_by conn (skipped_of conn s.skips) = by ∙ ap (shift_by conn) (left ∙ ap (skipped_of conn) stands.skips) in
       shown-one s.world (Bytes conn bytes) (shift_by conn (skipped_of conn s.skips)) effects (shown ∙ ap (λ t. shifted t (effects_after s.world (Bytes conn bytes))) same)
+
+-- ---- the server connects to itself
+
+pub greeted : (w : World) (cookie slice auth name : List ℕ) (a b d : ConnId) (running : Running) → a ≡ HIDDEN → b ≡ HIDDEN → d ≡ HIDDEN → auth ≡ auth_frame slice → slice ≡ cookie → name ≡ name_frame
+    → WorldStands running (world_after (world_after (world_after w (Connect a)) (Bytes b auth)) (Bytes d name)) → WorldStands running (world_by w (greeting cookie))
+greeted w cookie slice auth name a b d running one two three shown same named stands =
+    subst (λ x. WorldStands running (world_after (world_after (world_after w (Connect x)) (Bytes HIDDEN (auth_frame cookie))) (Bytes HIDDEN name_frame))) one
+    (subst (λ x. WorldStands running (world_after (world_after (world_after w (Connect a)) (Bytes x (auth_frame cookie))) (Bytes HIDDEN name_frame))) two
+    (subst (λ x. WorldStands running (world_after (world_after (world_after w (Connect a)) (Bytes b (auth_frame cookie))) (Bytes x name_frame))) three
+    (subst (λ f. WorldStands running (world_after (world_after (world_after w (Connect a)) (Bytes b f)) (Bytes d name_frame))) (shown ∙ ap auth_frame same)
+    (subst (λ f. WorldStands running (world_after (world_after (world_after w (Connect a)) (Bytes b auth)) (Bytes d f))) named stands))))

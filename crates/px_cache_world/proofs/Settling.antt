@@ -122,16 +122,22 @@ module _ (effects longer more : List Effect) (parts later : Parts) (start : Samp
     where
       items : List Item
       items = own (delete_frame NO_STREAM stream) ∷ []
+
       next : Sampler
       next = after_delete_of (stream ∷ due) g.now
+
       is : after_delete g.now ≡ next
       is = ap (λ d. after_delete_of d g.now) now-due
+
       stood : StandsForSampler later next
       stood = subst (λ es. StandsForSampler later (seeing es (deleting g.now stream due))) made stands
+
       size : length g.now.course.due ≡ suc (length due)
       size = ap (λ (l : List ℕ). length l) now-due
+
       less : most_due next.course ≤ length g.now.course.plays + length due
       less = seen-fewer (shown_by g.now.world items) (with_due due g.now.course)
+
       by : (most : ℕ) → g.most ≡ most → Settles longer later start
       by zero e = absurd (omega (arith, g.enough, e, size))
       by (suc left) e =

@@ -62,11 +62,18 @@ pub(crate) fn verdict_of(frame: &[u8]) -> Verdict
     ensures { result ≡ verdict_of frame.now }
 {
     match front(&mut TagReader::new(packet_in(frame))) {
-        Ok(Head { command: REPLY, tag }) => Verdict::Replied(tag),
-        Ok(Head {
-            command: ERROR,
-            tag,
-        }) => Verdict::Failed(tag),
+        Ok(
+            Head {
+                command: REPLY,
+                tag,
+            },
+        ) => Verdict::Replied(tag),
+        Ok(
+            Head {
+                command: ERROR,
+                tag,
+            },
+        ) => Verdict::Failed(tag),
         _ => Verdict::Other,
     }
 }

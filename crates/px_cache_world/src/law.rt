@@ -43,5 +43,5 @@ pub fn plays_write_what_was_kept()
     ensures written { (s : Sampler) (conn : ConnId) (frame : Frame) (p : Play) (stream input : ℕ) → (answered_by s conn (packet_of frame.body)).1 ≡ Begins p
         → created s.world p ≡ Made stream input
         → piece_items s conn (Own frame) ≡ own (create_frame NO_STREAM p) ∷ Reply (sending conn (played_reply (tag_in (packet_of frame.body)) input))
-            ∷ own (spelling_of (Write stream (pos 0) 0 p.sample.bytes)) ∷ own (drain_frame stream stream) ∷ [] }
+        ∷ own (spelling_of (Write stream (pos 0) 0 p.sample.bytes)) ∷ own (drain_frame stream stream) ∷ [] }
 {}

@@ -195,7 +195,11 @@ fn run(parts: &mut Parts, alloc: Global, e: Event) -> Result<Outcome, WorldFault
         Event::Bytes(conn, bytes) => heard(parts, alloc, conn, bytes.as_slice()),
         Event::Close(conn) => closed(parts, alloc, conn),
         Event::Cut(conn) => cut(parts, alloc, conn),
-        Event::Turn { sink, frames, take } => lone(parts, alloc, Event::Turn { sink, frames, take }),
+        Event::Turn { sink, frames, take } => lone(
+            parts,
+            alloc,
+            Event::Turn { sink, frames, take },
+        ),
         Event::Collect { sink, take } => lone(parts, alloc, Event::Collect { sink, take }),
         Event::Stop(sink) => lone(parts, alloc, Event::Stop(sink)),
     }

@@ -1,7 +1,6 @@
-use Rattle.std.proofs.Common.{rules, ◌≡◌, ℕ, suc, ◌<◌, Some, None, List, ◌∷◌, length, refl, ap, sym, subst, ◌∙◌, arith}
-use Rattle.px_cache_world.specs.declared.parts.Parts.{Parts}
-use Rattle.px_cache_world.specs.Course.{Course, with_due, most_due, TakesDue, course_seen}
-use Rattle.px_cache_world.specs.Sampler.{Sampler, settled, StandsForSampler}
+use Rattle.std.proofs.Common.{rules, ◌≡◌, ℕ, suc, Some, None, List, length, refl, ap, sym, subst, ◌∙◌, arith}
+use Rattle.px_cache_world.specs.Course.{with_due, most_due, TakesDue}
+use Rattle.px_cache_world.specs.Sampler.{StandsForSampler}
 use Rattle.px_cache_world.proofs.Settling.{Settles, settles-first, settles-next, settles-shown, settles-after, deleting, seen-fewer}
 use Rattle.px_cache_world.proofs.parts.settle.Goals as goal
 
@@ -15,19 +14,19 @@ loop-stream-preserved c =
     let taken : TakesDue (Some stream) was.course c.next_due.new.self = subst (λ r. TakesDue r was.course c.next_due.new.self) c.in-Some.is c.next_due.ensures in
     let due = taken.0 in (
       (λ s stands.
-      let g = c.loop-stream.invariant.0 s stands in
-      let first : StandsForSampler (record { world = c.delete.new.world; sieve = was.sieve; skips = was.skips; store = was.store; course = c.next_due.new.self }) (deleting g.now stream due) =
-      record {
-        world = c.in_ok-more.ensures.after g.now.world g.stands.world;
-        sieve = g.stands.sieve;
-        skips = g.stands.skips;
-        store = g.stands.store;
-        course = taken.2 ∙ ap (with_due due) g.stands.course;
-      } in
-      settles-next c.loop-stream.effects c.append.new.self c.in_ok-more.more was c.see.new.parts s stream due g taken.1
-      (c.in_ok-more.ensures.effects g.now.world g.stands.world)
-      (c.in_ok-see.ensures.after (deleting g.now stream due) first)
-      c.in_ok-append.ensures.ok),
+          let g = c.loop-stream.invariant.0 s stands in
+          let first : StandsForSampler (record { world = c.delete.new.world; sieve = was.sieve; skips = was.skips; store = was.store; course = c.next_due.new.self }) (deleting g.now stream due) =
+          record {
+            world = c.in_ok-more.ensures.after g.now.world g.stands.world;
+            sieve = g.stands.sieve;
+            skips = g.stands.skips;
+            store = g.stands.store;
+            course = taken.2 ∙ ap (with_due due) g.stands.course;
+          } in
+          settles-next c.loop-stream.effects c.append.new.self c.in_ok-more.more was c.see.new.parts s stream due g taken.1
+          (c.in_ok-more.ensures.effects g.now.world g.stands.world)
+          (c.in_ok-see.ensures.after (deleting g.now stream due) first)
+          c.in_ok-append.ensures.ok),
       c.in_ok-see.ensures.left ∙ c.loop-stream.invariant.1,
     )
 
