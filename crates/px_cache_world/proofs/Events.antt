@@ -1,11 +1,11 @@
 -- The events of a world with a sample cache, from what its parts do.
-use Rattle.std.proofs.Common.{◌≡◌, ℕ, Bool, true, false, List, [], ◌++◌, Option, None, Some, Result, Ok, Err, refl, ap, sym, subst, ◌∙◌}
+use Rattle.std.proofs.Common.{◌≡◌, ℕ, true, false, List, ◌++◌, Option, None, Some, Result, Ok, Err, refl, ap, sym, subst, ◌∙◌}
 use Rattle.std.specs.Option.{is_some}
 use Rattle.std.proofs.lemmas.Bool.{cond-true, cond-false}
 use Rattle.px_types.specs.declared.ids.ConnId.{ConnId}
 use Rattle.px_types.specs.declared.ids.SinkId.{SinkId}
 use Rattle.px_session.specs.declared.event.Event.{Event}
-use Rattle.px_session.specs.declared.event.Event.TheVariants.{Connect, Bytes, Close, Cut, Turn, Collect, Stop}
+use Rattle.px_session.specs.declared.event.Event.TheVariants.{Connect, Close, Cut, Turn, Collect, Stop}
 use Rattle.px_state.specs.declared.effect.Effect.{Effect}
 use Rattle.px_world.specs.declared.fault.WorldFault.{WorldFault}
 use Rattle.px_world.specs.declared.fault.WorldFault.TheVariants.{Live, NotLive, NoSink, Worn, TooMany, NoMemory}
@@ -13,12 +13,12 @@ use Rattle.px_world.specs.declared.outcome.Outcome.{Outcome}
 use Rattle.px_world.specs.Admission.{if_named, refusal_of}
 use Rattle.px_world.specs.Event.{effects_after}
 use Rattle.px_world.specs.Parts.{Unless, Answered}
-use Rattle.px_world.specs.World.{World, Link}
+use Rattle.px_world.specs.World.{Link}
 use Rattle.px_sieve.specs.Scene.{shown_by}
 use Rattle.px_sieve.proofs.Scenes.{shown-join}
 use Rattle.px_cache_world.specs.declared.parts.Parts.{Parts}
 use Rattle.px_cache_world.specs.Own.{is_hidden}
-use Rattle.px_cache_world.specs.Sampler.{Sampler, running_on, seeing, after_items, alone, lone_items, after_lone, settle_items, settled, forgotten, unless_hidden, sampler_refusal, open_effects, StandsForSampler}
+use Rattle.px_cache_world.specs.Sampler.{Sampler, running_on, seeing, after_items, alone, lone_items, after_lone, settle_items, settled, forgotten, unless_hidden, open_effects, StandsForSampler}
 use Rattle.px_cache_world.specs.CacheOutcome.{HasLone, HasDone}
 use Rattle.px_cache_world.proofs.Partly.{shown-alone}
 

@@ -10,12 +10,11 @@ use Rattle.px_sieve.specs.declared.segment.Segment.{Segment}
 use Rattle.px_sieve.specs.declared.piece.Piece.{Piece}
 use Rattle.px_sieve.specs.declared.piece.Piece.TheVariants.{Pass, Broken, Own, Write}
 use Rattle.px_sieve.specs.Sieve.{Heard, is_of, heard_of, changed, first_taken, first_of, piece_from, asked_from, next, seen}
-use Rattle.px_sieve.specs.Scene.{Item, inner, shown_by}
+use Rattle.px_sieve.specs.Scene.{inner, shown_by}
 use Rattle.px_sieve.proofs.Scenes.{worlds-join, shown-join}
-use Rattle.px_world.specs.World.{World}
 use Rattle.px_world.specs.Output.{world_by}
 use Rattle.px_cache_world.specs.declared.parts.Parts.{Parts}
-use Rattle.px_cache_world.specs.Sampler.{Sampler, is_taken, uploaded, waiting_in, running_on, seeing, after_items, delete_items_of, after_delete_of, delete_items, after_delete, deletes_by, deleted_by, settle_items, settled, handled_in, with_piece, whole_items, after_whole, handed_out, piece_for, piece_items, after_segment, segment_items, segments_items, after_segments, to_hand_out, StandsForSampler}
+use Rattle.px_cache_world.specs.Sampler.{Sampler, is_taken, uploaded, waiting_in, running_on, seeing, delete_items_of, after_delete_of, delete_items, after_delete, deletes_by, deleted_by, settle_items, settled, handled_in, with_piece, whole_items, after_whole, handed_out, piece_for, piece_items, after_segment, segment_items, segments_items, after_segments, to_hand_out, StandsForSampler}
 use Rattle.px_cache_world.specs.Course.{most_due}
 use Rattle.px_cache_world.proofs.Handing.{hands, hands-none, later-wait, seen-waits}
 

@@ -1,5 +1,5 @@
 -- The samples after events, and the sample of a play.
-use Rattle.std.proofs.Common.{◌≡◌, ℕ, zero, suc, Bool, true, false, List, [], ◌∷◌, ◌++◌, Option, None, Some, Result, Ok, Err, refl, ap, sym, subst, ◌∙◌}
+use Rattle.std.proofs.Common.{◌≡◌, ℕ, zero, suc, Bool, true, false, List, [], ◌∷◌, Option, None, Some, Result, Ok, Err, refl, ap, sym, ◌∙◌}
 use Rattle.std.specs.Prelude.{cond, fold, not, nat_lt}
 use Rattle.std.proofs.lemmas.Grind.{fold-append}
 use Rattle.std.proofs.lemmas.Bool.{cond_both}
@@ -15,7 +15,6 @@ use Rattle.px_cmd.specs.Packet.{head_at}
 use Rattle.px_frame.specs.declared.frame.Frame.{Frame}
 use Rattle.px_frame.specs.declared.frame.Body.{Body}
 use Rattle.px_frame.specs.declared.frame.Body.TheVariants.{Control, Write as write}
-use Rattle.px_outcome.specs.declared.refusal.Refusal.{Refusal}
 use Rattle.px_outcome.specs.declared.refusal.Refusal.TheVariants.{Code, NoMemory as OutOfMemory}
 use Rattle.px_outcome.specs.Handled.{Handled, ◌>>=◌, check, present}
 use Rattle.px_reply.specs.Front.{reply_to}
@@ -28,11 +27,9 @@ use Rattle.px_sieve.specs.declared.segment.Segment.{Segment}
 use Rattle.px_sieve.specs.declared.piece.Piece.{Piece}
 use Rattle.px_sieve.specs.declared.piece.Piece.TheVariants.{Pass, Broken, Own, Write}
 use Rattle.px_sieve.specs.Scene.{Item, Reply, shown_by}
-use Rattle.px_scache.specs.declared.answer.Answer.{Answer}
 use Rattle.px_scache.specs.declared.answer.Answer.TheVariants.{Packet, Begins}
 use Rattle.px_scache.specs.declared.command.Request.{Request}
 use Rattle.px_scache.specs.declared.command.Request.TheVariants.{Upload, Delete, Finish, Play as play, Remove}
-use Rattle.px_scache.specs.declared.fields.PlayFields.{PlayFields}
 use Rattle.px_scache.specs.declared.play.Play.{Play}
 use Rattle.px_scache.specs.declared.play.Plays.{Plays}
 use Rattle.px_scache.specs.declared.sample.Sample.{Sample}

@@ -1,7 +1,6 @@
 -- The streams that are due are deleted one after the other, until none is due.
-use Rattle.std.proofs.Common.{◌≡◌, ℕ, zero, suc, ◌+◌, ◌<◌, ◌≤◌, Bool, true, false, not, cond, List, [], ◌∷◌, ◌++◌, length, filter, refl, ap, sym, subst, ◌∙◌, append-nil, length-append, arith, ⊎_elim}
+use Rattle.std.proofs.Common.{◌≡◌, ℕ, zero, suc, ◌+◌, ◌≤◌, Bool, true, false, not, cond, List, [], ◌∷◌, ◌++◌, length, refl, ap, sym, subst, ◌∙◌, append-nil, length-append, arith, ⊎_elim}
 use Rattle.std.specs.Prelude.{nat_eq, ◌||◌}
-use Rattle.std.specs.List.{list_any}
 use Rattle.std.proofs.lemmas.Bool.{cases_Bool, cond-true, cond-false}
 use Rattle.std.proofs.lemmas.List.{append_assoc}
 use Rattle.px_state.specs.declared.effect.Effect.{Effect}
@@ -14,7 +13,7 @@ use Rattle.px_cache_world.specs.declared.parts.Parts.{Parts}
 use Rattle.px_cache_world.specs.Own.{is_hidden}
 use Rattle.px_cache_world.specs.Answered.{verdict_of}
 use Rattle.px_cache_world.specs.Course.{Course, without, is_play, drained, answered, all_ended, course_seen_one, course_seen, with_due, most_due}
-use Rattle.px_cache_world.specs.Sampler.{Sampler, own, running_on, seeing, after_items, delete_items_of, after_delete_of, delete_items, after_delete, deletes_by, deleted_by, settle_items, settled, StandsForSampler}
+use Rattle.px_cache_world.specs.Sampler.{Sampler, own, running_on, seeing, delete_items_of, after_delete_of, after_delete, deletes_by, deleted_by, settle_items, settled, StandsForSampler}
 use Rattle.px_scache.specs.Play.{delete_frame}
 use Rattle.px_cache_world.specs.Answered.{NO_STREAM}
 

@@ -13,16 +13,16 @@ use Rattle.px_state.specs.Effect.{fault_code, fault_place, offset_behind, sendin
 use Rattle.px_world.specs.declared.fault.WorldFault.{WorldFault}
 use Rattle.px_world.specs.declared.fault.WorldFault.TheVariants.{Live, NotLive}
 use Rattle.px_world.specs.World.{World, Link, is_of, link_of, new_world}
-use Rattle.px_world.specs.Admission.{if_named, if_new, refusal_of}
-use Rattle.px_world.specs.Event.{with_bytes, links_after, world_after}
+use Rattle.px_world.specs.Admission.{if_named, refusal_of}
+use Rattle.px_world.specs.Event.{with_bytes, world_after}
 use Rattle.px_world.specs.Output.{world_by, AreAdmitted}
 use Rattle.px_world.proofs.Runs.{world-joins, admitted-join}
 use Rattle.px_sieve.specs.declared.segment.Segment.{Segment}
 use Rattle.px_sieve.specs.declared.piece.Piece.{Piece}
 use Rattle.px_sieve.specs.declared.piece.Piece.TheVariants.{Pass, Broken, Own, Write}
 use Rattle.px_sieve.specs.declared.shift.Shift.{Shift}
-use Rattle.px_sieve.specs.declared.shift.Shift.TheVariants.{Unshifted, Faulted, Hidden}
-use Rattle.px_sieve.specs.Scene.{Item, Inner, Reply, inner, shown_by, shifted, shifted_one}
+use Rattle.px_sieve.specs.declared.shift.Shift.TheVariants.{Faulted, Hidden}
+use Rattle.px_sieve.specs.Scene.{Item, Inner, Reply, inner, shown_by, shifted_one}
 use Rattle.px_sieve.proofs.Scenes.{worlds-join, shown-join, admitted-joins}
 use Rattle.px_scache.specs.declared.answer.Answer.{Answer}
 use Rattle.px_scache.specs.declared.answer.Answer.TheVariants.{Packet, Fault, Begins}
@@ -30,11 +30,11 @@ use Rattle.px_scache.specs.declared.play.Play.{Play}
 use Rattle.px_scache.specs.Play.{create_frame, data_frame, drain_frame, delete_frame}
 use Rattle.px_cache_world.specs.declared.answered.Created.{Created}
 use Rattle.px_cache_world.specs.declared.answered.Created.TheVariants.{Made, Refused, Unanswered}
-use Rattle.px_cache_world.specs.Own.{HIDDEN, is_hidden, auth_frame, name_frame}
+use Rattle.px_cache_world.specs.Own.{HIDDEN, is_hidden}
 use Rattle.px_cache_world.specs.Skips.{skipped_of}
 use Rattle.px_cache_world.specs.Answered.{NO_STREAM, play_reply, tag_in}
 use Rattle.px_cache_world.specs.Course.{most_due}
-use Rattle.px_cache_world.specs.Sampler.{Sampler, new_sampler, greeting, own, alone, is_taken, packet_of, answered_by, shift_by, passed_on, zero_length, created, filling, play_items, answer_items, piece_items, with_piece, delete_items_of, delete_items, after_delete, after_delete_of, deletes_by, deleted_by, settle_items, whole_items, handed_out, piece_for, after_segment, segment_items, segments_items, after_segments, hearing, to_hand_out, after_items, after_lone, lone_items, items, sampler_after, sampler_effects, sampler_refusal, unless_hidden, open_effects}
+use Rattle.px_cache_world.specs.Sampler.{Sampler, new_sampler, greeting, own, alone, is_taken, packet_of, answered_by, shift_by, passed_on, zero_length, created, filling, answer_items, piece_items, with_piece, delete_items_of, delete_items, after_delete, deletes_by, settle_items, whole_items, handed_out, piece_for, after_segment, segment_items, segments_items, after_segments, hearing, to_hand_out, after_items, after_lone, lone_items, items, sampler_after, sampler_effects, sampler_refusal, unless_hidden, open_effects}
 use Rattle.px_cache_world.specs.Run.{sampler_by, AreSampled, items_by, effects_shown}
 use Rattle.px_cache_world.proofs.Goes.{piece-world, delete-world, settled-world, segment-world}
 

@@ -1,5 +1,5 @@
 -- How many bytes the packets of the server's own connection have.
-use Rattle.std.proofs.Common.{◌≡◌, ℕ, ◌+◌, ◌<◌, ◌≤◌, List, [], ◌++◌, length, length-append, refl, arith}
+use Rattle.std.proofs.Common.{◌≡◌, ℕ, ◌+◌, ◌<◌, ◌≤◌, List, [], length, length-append, refl, arith}
 use Rattle.px_tag.specs.Item.{number, arbitrary, text, proplist, property}
 use Rattle.px_cache_world.specs.Own.{auth_packet, name_packet}
 

@@ -1,5 +1,5 @@
 -- The connection that the server has of its own, on which samples are played.
-use Rattle.std.specs.Prelude.{◌≡◌, ℕ, Bool, nat_eq, List, [], ◌∷◌, ◌++◌, codes}
+use Rattle.std.specs.Prelude.{ℕ, Bool, nat_eq, List, [], ◌∷◌, ◌++◌, codes}
 use Rattle.px_types.specs.declared.ids.ConnId.{ConnId}
 use Rattle.px_tag.specs.PropList.{Property}
 use Rattle.px_cmd.specs.declared.command.Command.{Command}

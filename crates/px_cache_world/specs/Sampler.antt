@@ -3,7 +3,6 @@
 use Rattle.std.specs.Prelude.{◌≡◌, ℕ, zero, suc, ◌+◌, Bool, false, cond, nat_eq, List, [], ◌∷◌, ◌++◌, length, replicate, Option, None, Some}
 use Rattle.px_types.specs.declared.ids.ConnId.{ConnId}
 use Rattle.px_tag.specs.declared.fault.TagFault.{TagFault}
-use Rattle.px_frame.specs.declared.frame.Frame.{Frame}
 use Rattle.px_frame.specs.declared.frame.Body.{Body}
 use Rattle.px_frame.specs.declared.frame.Body.TheVariants.{Control, Write as write}
 use Rattle.px_frame.specs.Spelling.{spelling_of}
