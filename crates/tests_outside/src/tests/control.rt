@@ -15,8 +15,7 @@ use std::time::Duration;
 use std::{fs, io, thread};
 
 /// A runtime that the whole program may have.
-trait Machine:
-    AllocGlobal
+trait Machine: AllocGlobal
     + Threads
     + Wait
     + Clock
@@ -27,11 +26,10 @@ trait Machine:
     + Drop
     + Send
     + Sync
-    + 'static
-{
-}
+    + 'static {}
 
-impl<R> Machine for R where
+impl<R> Machine for R
+where
     R: AllocGlobal
         + Threads
         + Wait
@@ -43,9 +41,8 @@ impl<R> Machine for R where
         + Drop
         + Send
         + Sync
-        + 'static
-{
-}
+        + 'static,
+{}
 
 // A server for those who look whether it listens, and for the clients of `CLIENTS`.
 const SERVER: &str =
@@ -120,9 +117,12 @@ fn ends<R: Machine>(rt: &R, words: &str, status: Status, line: &[u8]) -> Mem<boo
 // Whether all clients end as they should, once the server listens.
 fn all_end<R: Machine>(rt: &R) -> io::Result<bool> {
     listens(rt)?;
-    Ok(CLIENTS
-        .iter()
-        .all(|(words, status, line)| matches!(ends(rt, words, *status, line), Ok(true))))
+    Ok(
+        CLIENTS.iter().all(|(words, status, line)| matches!(
+            ends(rt, words, *status, line),
+            Ok(true)
+        )),
+    )
 }
 
 // The clients in a thread of their own, one after the other, and the server that they have.

@@ -21,13 +21,16 @@ const ANOTHERS: &[u8] =
     b"\0\0\0\x0f\xff\xff\xff\xff\0\0\0\0\0\0\0\0\0\0\0\0L\0\0\0\0L\0\0\0\x03L\0\0\0\x05";
 
 // A subscription event.
-const EVENT: &[u8] = b"\0\0\0\x14\xff\xff\xff\xff\0\0\0\0\0\0\0\0\0\0\0\0L\0\0\0\x42L\xff\xff\xff\xffL\0\0\0\x02L\0\0\0\0";
+const EVENT: &[u8] =
+    b"\0\0\0\x14\xff\xff\xff\xff\0\0\0\0\0\0\0\0\0\0\0\0L\0\0\0\x42L\xff\xff\xff\xffL\0\0\0\x02L\0\0\0\0";
 
 // A list of one input: its index 0, name `a`, no module, client 0, sink 0, S16LE, mono, full volume, not muted, no properties.
-const LISTED: &[u8] = b"\0\0\0\x48\xff\xff\xff\xff\0\0\0\0\0\0\0\0\0\0\0\0L\0\0\0\x02L\0\0\0\x02L\0\0\0\0ta\0L\xff\xff\xff\xffL\0\0\0\0L\0\0\0\0a\x03\x01\0\0\xbb\x80m\x01\0v\x01\0\x01\0\0U\0\0\0\0\0\0\0\0U\0\0\0\0\0\0\0\0NN0PN";
+const LISTED: &[u8] =
+    b"\0\0\0\x48\xff\xff\xff\xff\0\0\0\0\0\0\0\0\0\0\0\0L\0\0\0\x02L\0\0\0\x02L\0\0\0\0ta\0L\xff\xff\xff\xffL\0\0\0\0L\0\0\0\0a\x03\x01\0\0\xbb\x80m\x01\0v\x01\0\x01\0\0U\0\0\0\0\0\0\0\0U\0\0\0\0\0\0\0\0NN0PN";
 
 // The command that sets the volume of input 0 to 32768, in its frame.
-const VOLUME: &[u8] = b"\0\0\0\x15\xff\xff\xff\xff\0\0\0\0\0\0\0\0\0\0\0\0L\0\0\0\x25L\0\0\0\x02L\0\0\0\0v\x01\0\0\x80\0";
+const VOLUME: &[u8] =
+    b"\0\0\0\x15\xff\xff\xff\xff\0\0\0\0\0\0\0\0\0\0\0\0L\0\0\0\x25L\0\0\0\x02L\0\0\0\0v\x01\0\0\x80\0";
 
 // The words, what the server sends before it hangs up, the status, and what the output and the log gain.
 type Row = (
@@ -198,17 +201,15 @@ const ALONE: [(usize, Status, &[u8]); 3] = [
 fn ends_alone<R: Machine>(rt: &R, row: &(usize, Status, &[u8])) -> Mem<bool> {
     let (length, status, line) = *row;
     let mut host = dialling(rt, Vec::new(rt.alloc()))?;
-    let gained = gains(
-        rt,
-        "ctl --socket s list",
-        length,
-        &mut host,
-        (b"", line),
-    );
+    let gained = gains(rt, "ctl --socket s list", length, &mut host, (b"", line));
     Ok(gained == Ok(Some(status)))
 }
 
 #[test]
 fn a_control_client_without_a_cookie_or_a_server_says_so(rt: HostRuntime) {
-    assert!(rt; ALONE.iter().all(|row| matches!(ends_alone(&rt, row), Ok(true))));
+    assert!(rt;
+        ALONE
+            .iter()
+            .all(|row| matches!(ends_alone(&rt, row), Ok(true)))
+    );
 }
