@@ -18,7 +18,7 @@ use Rattle.px_app.specs.Report.{Reported}
 use Rattle.px_app.specs.Run.{Outside, IsUsage, DoesAlone, Serves, Does}
 use Rattle.px_app.specs.Serving.{Served}
 use Rattle.px_app.specs.Tape.{out_end}
-use Rattle.px_app.specs.Words.{Command, Replay, Monitor, Convert, Gen, Serve, Other, meaning_in, meaning_of, is_serve, alone_in, command_in}
+use Rattle.px_app.specs.Words.{Command, Replay, Monitor, Samples, Convert, Gen, Serve, Other, meaning_in, meaning_of, is_serve, alone_in, command_in}
 use Rattle.px_app.proofs.FineLaws.{served_fine}
 use Rattle.px_app.proofs.FrontLaws.{whole_front}
 use Rattle.px_app.proofs.PlayedLaws.{accounted_so, not_write_fault}
@@ -105,6 +105,7 @@ module _ {D R C : Type 0} (core_visible : C → Option (List CoreEntry)) (core_f
   by_command : (command : Command) → DoesAlone command answered before.ends after.ends before.log after.log → after.host ≡ before.host → DoesSo command
   by_command (Replay shown) does host = (does, host)
   by_command Monitor does host = (does, host)
+  by_command Samples does host = (does, host)
   by_command Convert does host = (does, host)
   by_command (Gen number count) does host = (does, host)
   by_command Other does host = (does, host)

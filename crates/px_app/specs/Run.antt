@@ -15,9 +15,10 @@ use Rattle.px_app.specs.Monitor.{Monitors}
 use Rattle.px_app.specs.Plays.{IsAccounted}
 use Rattle.px_app.specs.Replay.{Replays}
 use Rattle.px_app.specs.Report.{Reported}
+use Rattle.px_app.specs.Samples.{Samples as PlaysSamples}
 use Rattle.px_app.specs.Serving.{Served}
 use Rattle.px_app.specs.Tape.{out_end}
-use Rattle.px_app.specs.Words.{Command, Replay, Monitor, Convert, Gen, Serve, Other}
+use Rattle.px_app.specs.Words.{Command, Replay, Monitor, Samples, Convert, Gen, Serve, Other}
 
 -- the input, the output, the log and the host of a run
 pub record Outside (D R C : Type 0) : Type 0 where
@@ -40,6 +41,7 @@ pub record IsUsage (answered : Status) (before after : Ends) (log_before log_aft
 abbrev pub DoesAlone : Command → Status → Ends → Ends → Log → Log → Type 0
 DoesAlone (Replay shown) answered before after log_before log_after = Replays shown answered before after log_before log_after
 DoesAlone Monitor answered before after log_before log_after = Monitors answered before after log_before log_after
+DoesAlone Samples answered before after log_before log_after = PlaysSamples answered before after log_before log_after
 DoesAlone Convert answered before after log_before log_after = Converts answered before after log_before log_after
 DoesAlone (Gen number count) answered before after log_before log_after = Generates number count answered before after log_before log_after
 DoesAlone Other answered before after log_before log_after = IsUsage answered before after log_before log_after
@@ -61,6 +63,7 @@ module _ {D R C : Type 0} (core_visible : C → Option (List CoreEntry)) (core_f
   Does Serve texts answered before after = Serves texts answered before after
   Does (Replay shown) texts answered before after = Replays shown answered before.ends after.ends before.log after.log × (after.host ≡ before.host)
   Does Monitor texts answered before after = Monitors answered before.ends after.ends before.log after.log × (after.host ≡ before.host)
+  Does Samples texts answered before after = PlaysSamples answered before.ends after.ends before.log after.log × (after.host ≡ before.host)
   Does Convert texts answered before after = Converts answered before.ends after.ends before.log after.log × (after.host ≡ before.host)
   Does (Gen number count) texts answered before after = Generates number count answered before.ends after.ends before.log after.log × (after.host ≡ before.host)
   Does Other texts answered before after = IsUsage answered before.ends after.ends before.log after.log × (after.host ≡ before.host)
