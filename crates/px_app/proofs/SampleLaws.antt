@@ -21,7 +21,7 @@ use Rattle.px_app.specs.Ends.{Ends, Log}
 use Rattle.px_app.specs.Mode.{state_after, AreAdmitted}
 use Rattle.px_app.specs.Samples.{sample_course, sample_part, sample_mode, IsSampled, IsKept, Samples}
 use Rattle.px_app.specs.Played.{Played}
-use Rattle.px_app.specs.Records.{turn_sink, turn_part, shown_part}
+use Rattle.px_app.specs.Records.{turn_sink, shown_part}
 use Rattle.px_app.specs.Stage.{EventDone, EventCut, EventPlayed}
 use Rattle.px_app.proofs.ModeLaws.{state-push}
 use Rattle.px_app.proofs.PlayedLaws.{plays}
