@@ -191,6 +191,11 @@ COMMANDS = {
     "lookup-sink": (10, [("sink", TEXT, None)]),
     "drain": (12, [STREAM]),
     "latency": (14, [STREAM, ("time", TIME, (0, 0))]),
+    "upload": (15, [("name", TEXT, None), (None, SPEC, NEEDED), ("map", MAP, NEEDED), number("length"), LIST]),
+    "delete-upload": (16, [STREAM]),
+    "finish-upload": (17, [STREAM]),
+    "play-sample": (18, [*SINK, number("volume", NONE), ("name", TEXT, None), LIST]),
+    "remove-sample": (19, [("name", TEXT, None)]),
     "server-info": (20, []),
     "sink-info": (21, SINK),
     "sink-infos": (22, []),
@@ -228,6 +233,7 @@ COMMANDS = {
 }
 NUMBERS = {code: word for word, (code, _) in COMMANDS.items()}
 RECORDERS = ("create-record", "delete-record")  # the commands that `replay --monitor` knows, and `replay` refuses
+SAMPLERS = ("upload", "delete-upload", "finish-upload", "play-sample", "remove-sample")  # those that `replay --samples` knows
 # What each later version adds at the end of a command's fields.
 LATER = {
     "create": [

@@ -54,6 +54,8 @@ REPLIES = {
     "auth": [("version", NUMBER)],
     "name": [("client", NUMBER)],
     "lookup-sink": [("index", NUMBER)],
+    "upload": [("stream", NUMBER), ("length", NUMBER)],
+    "play-sample": [("input", NUMBER)],
 }
 LISTS = {"sink-infos": SINK_INFO, "input-infos": INPUT_INFO, "client-infos": CLIENT_INFO}
 # What later versions add at the end of what is told.

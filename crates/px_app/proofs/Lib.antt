@@ -4,6 +4,7 @@ pub mod SummaryLaws
 pub mod FrontLaws
 pub mod ModeLaws
 pub mod MonitorLaws
+pub mod SampleLaws
 pub mod ReadLaws
 pub mod BeginLaws
 pub mod RefuseLaws

@@ -21,7 +21,7 @@ use Rattle.px_app.specs.Ends.{Ends, Log}
 use Rattle.px_app.specs.Mode.{state_after, AreAdmitted}
 use Rattle.px_app.specs.Monitor.{monitor_course, monitor_part, monitor_mode, IsMonitored, IsSieved, Monitors}
 use Rattle.px_app.specs.Played.{Played}
-use Rattle.px_app.specs.Records.{turn_sink, turn_part, monitored_part}
+use Rattle.px_app.specs.Records.{turn_sink, monitored_part}
 use Rattle.px_app.specs.Stage.{EventDone, EventCut, EventPlayed}
 use Rattle.px_app.proofs.ModeLaws.{state-push}
 use Rattle.px_app.proofs.PlayedLaws.{plays}

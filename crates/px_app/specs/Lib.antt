@@ -2,6 +2,7 @@ pub mod Ends
 pub mod Refusal
 pub mod Mode
 pub mod Monitor
+pub mod Samples
 pub mod Session
 pub mod Summary
 pub mod View

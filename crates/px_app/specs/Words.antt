@@ -8,11 +8,12 @@ use Rattle.px_app.specs.View.{Shown, Records, Raw, Summary, shown_of}
 
 -- ---- commands
 
--- what the words ask for: a replay that shows this, a replay with monitors, a conversion, a session generated from a number and a count, serving, or a
--- control client; none of these for other words
+-- what the words ask for: a replay that shows this, a replay with monitors or with a sample cache, a conversion, a session generated from a number
+-- and a count, serving, or a control client; none of these for other words
 pub data Command : Type 0 where
   Replay : Shown → Command
   Monitor : Command
+  Samples : Command
   Convert : Command
   Gen : ℕ → ℕ → Command
   Serve : Command
@@ -34,9 +35,11 @@ of_one word =
     (cond (bytes_eq word (codes "summary")) (Some (Replay Summary))
     (cond (bytes_eq word (codes "convert")) (Some Convert) None))
 
--- replay --monitor
+-- replay --monitor or replay --samples
 abbrev pub of_two : List ℕ → List ℕ → Option Command
-of_two first second = cond (bytes_eq first (codes "replay") && bytes_eq second (codes "--monitor")) (Some Monitor) None
+of_two first second =
+    cond (bytes_eq first (codes "replay") && bytes_eq second (codes "--monitor")) (Some Monitor)
+    (cond (bytes_eq first (codes "replay") && bytes_eq second (codes "--samples")) (Some Samples) None)
 
 -- replay --raw SINK, or gen NUMBER COUNT
 abbrev pub of_three : List ℕ → List ℕ → List ℕ → Option Command
@@ -56,6 +59,7 @@ meaning_in (a ∷ b ∷ c ∷ d ∷ more) = None
 abbrev pub meaning_of : Words → Command
 meaning_of (words.Replay view) = Replay (shown_of view)
 meaning_of words.Monitor = Monitor
+meaning_of words.Samples = Samples
 meaning_of words.Convert = Convert
 meaning_of (words.Gen number count) = Gen number count
 

@@ -13,6 +13,7 @@ use crate::log::report;
 use crate::making::make;
 use crate::monitoring::replay_monitor;
 use crate::replaying::replay;
+use crate::sampling::replay_samples;
 use crate::serving::{is_serve, serve_reported};
 use crate::words::{Words, meaning};
 use px_ctl::is_ctl;
@@ -46,6 +47,7 @@ fn run_alone<S: Source, K: Sink, L: Sink>(
     match meaning(words) {
         Some(Words::Replay(view)) => replay(alloc, view, input, output, log),
         Some(Words::Monitor) => replay_monitor(alloc, input, output, log),
+        Some(Words::Samples) => replay_samples(alloc, input, output, log),
         Some(Words::Convert) => convert(alloc, input, output, log),
         Some(Words::Gen { number, count }) => make(alloc, number, count, output, log),
         None => refuse_words(alloc, log),
@@ -55,7 +57,8 @@ fn run_alone<S: Source, K: Sink, L: Sink>(
 /// Runs the program by the words of its command line, and returns its status.
 ///
 /// `replay`, `replay --raw SINK` and `summary` replay the session in `input`: see [`crate::replay`] and [`crate::View`].
-/// `replay --monitor` replays it in a world with monitors: see [`crate::replay_monitor`]. `convert` writes it in
+/// `replay --monitor` replays it in a world with monitors: see [`crate::replay_monitor`]; `replay --samples` in a world with a sample cache: see
+/// [`crate::replay_samples`]. `convert` writes it in
 /// the second form: see [`crate::convert`]. `gen NUMBER COUNT` writes the session generated from a number of 64 bits and a count up to 1,000,000, both in decimal digits alone: see [`px_gen::generate`]. `serve` with
 /// its options serves live clients on the sinks of the header that the host reads, and waits for them: see [`serve_by`] and [`px_server::serve`];
 /// with `--tape` the output then gets a session of what was done. `ctl --socket PATH` and the words of an errand, `list`, `volume INPUT VALUE`,

@@ -16,6 +16,8 @@ pub(crate) enum Words<'a> {
     Replay(View<'a>),
     /// A session is replayed in a world with monitors.
     Monitor,
+    /// A session is replayed in a world with a sample cache.
+    Samples,
     /// A session is converted.
     Convert,
     /// A session is generated.
@@ -41,6 +43,8 @@ fn two(first: &str, second: &str) -> Option<Words<'static>>
 {
     if first == "replay" && second == "--monitor" {
         Some(Words::Monitor)
+    } else if first == "replay" && second == "--samples" {
+        Some(Words::Samples)
     } else {
         None
     }

@@ -1,4 +1,4 @@
-use Rattle.std.proofs.Common.{ℕ, Option, inr, refl, ap, ◌∙◌}
+use Rattle.std.proofs.Common.{ℕ, Option, inr, ap, ◌∙◌}
 use Rattle.px_ends.specs.Visible.{after_adding}
 use Rattle.px_app.specs.Mode.{state_after}
 use Rattle.px_app.specs.Monitor.{monitor_course}
