@@ -1,3 +1,4 @@
+mod controlled;
 mod ends;
 mod faults;
 mod moving;

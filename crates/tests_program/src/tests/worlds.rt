@@ -63,8 +63,8 @@ pub const AUTH: &[u8] =
 const ASKED: &[u8] =
     b"\0\0\0\x45\xff\xff\xff\xff\0\0\0\0\0\0\0\0\0\0\0\0L\0\0\0\x03L\0\0\0\x02a\x03\x01\0\0\xbb\x80m\x01\0L\xff\xff\xff\xffNL\xff\xff\xff\xff0L\xff\xff\xff\xffL\0\0\0\0L\xff\xff\xff\xffL\0\0\0\0v\x01\0\x01\0\x00000000000PN\0\0\0\x0f\xff\xff\xff\xff\0\0\0\0\0\0\0\0\0\0\0\0L\0\0\0\x0cL\0\0\0\x03L\0\0\0\0\0\0\0\x18\xff\xff\xff\xff\0\0\0\0\0\0\0\0\0\0\0\0L\0\0\0\x0eL\0\0\0\x04L\0\0\0\0T\0\0\0\x01\0\0\0\x02";
 
-// A client authenticates, creates a stream, and sends two requests for it.
-fn asks(alloc: Global, world: &mut World) -> Mem<bool> {
+/// A client authenticates, creates a stream, and sends two requests for it.
+pub fn asks(alloc: Global, world: &mut World) -> Mem<bool> {
     let mut bytes = Vec::new(alloc);
     bytes.extend_from_slice(AUTH)?;
     bytes.extend_from_slice(&[0; 256])?;
