@@ -33,79 +33,79 @@ const VOLUME: &[u8] =
     b"\0\0\0\x15\xff\xff\xff\xff\0\0\0\0\0\0\0\0\0\0\0\0L\0\0\0\x25L\0\0\0\x02L\0\0\0\0v\x01\0\0\x80\0";
 
 // The words, what the server sends before it hangs up, the status, and what the output and the log gain.
-type Row = (
-    &'static str,
-    &'static [&'static [u8]],
-    Status,
-    &'static [u8],
-    &'static [u8],
-);
+struct Row {
+    words: &'static str,
+    pieces: &'static [&'static [u8]],
+    status: Status,
+    listed: &'static [u8],
+    line: &'static [u8],
+}
 
 // The offset of a frame is that of its packet.
 const ROWS: [Row; 9] = [
-    (
-        "ctl --socket s volume 0 32768",
-        &[REPLY, NAMED, DONE],
-        Fine,
-        b"",
-        b"",
-    ),
-    (
-        "ctl --socket s list",
-        &[REPLY, NAMED, LISTED],
-        Fine,
-        b"input 0 sink 0 volume 65536 mute no\n",
-        b"",
-    ),
-    (
-        "ctl --socket s volume 9 1",
-        &[REPLY, NAMED, NO_ENTITY],
-        Denied,
-        b"",
-        b"pulse_rw: server refused 5\n",
-    ),
-    (
-        "ctl --socket s mute 0 off",
-        &[REPLY, EVENT, NAMED, EVENT, DONE],
-        Fine,
-        b"",
-        b"",
-    ),
-    (
-        "ctl --socket s sink-volume out 1",
-        &[REPLY, DONE],
-        BadReply,
-        b"",
-        b"pulse_rw: bad reply at 55\n",
-    ),
-    (
-        "ctl --socket s move 0 out",
-        &[REPLY, NAMED, ANOTHERS],
-        BadReply,
-        b"",
-        b"pulse_rw: bad reply at 90\n",
-    ),
-    (
-        "ctl --socket s kill 0",
-        &[REPLY, NAMED, LISTED],
-        BadReply,
-        b"",
-        b"pulse_rw: bad reply at 90\n",
-    ),
-    (
-        "ctl --socket s list",
-        &[REPLY],
-        Gone,
-        b"",
-        b"pulse_rw: server gone\n",
-    ),
-    (
-        "ctl --socket s list",
-        &[b"\0\0\0\x0f\0\0\0\0"],
-        Gone,
-        b"",
-        b"pulse_rw: server gone\n",
-    ),
+    Row {
+        words: "ctl --socket s volume 0 32768",
+        pieces: &[REPLY, NAMED, DONE],
+        status: Fine,
+        listed: b"",
+        line: b"",
+    },
+    Row {
+        words: "ctl --socket s list",
+        pieces: &[REPLY, NAMED, LISTED],
+        status: Fine,
+        listed: b"input 0 sink 0 volume 65536 mute no\n",
+        line: b"",
+    },
+    Row {
+        words: "ctl --socket s volume 9 1",
+        pieces: &[REPLY, NAMED, NO_ENTITY],
+        status: Denied,
+        listed: b"",
+        line: b"pulse_rw: server refused 5\n",
+    },
+    Row {
+        words: "ctl --socket s mute 0 off",
+        pieces: &[REPLY, EVENT, NAMED, EVENT, DONE],
+        status: Fine,
+        listed: b"",
+        line: b"",
+    },
+    Row {
+        words: "ctl --socket s sink-volume out 1",
+        pieces: &[REPLY, DONE],
+        status: BadReply,
+        listed: b"",
+        line: b"pulse_rw: bad reply at 55\n",
+    },
+    Row {
+        words: "ctl --socket s move 0 out",
+        pieces: &[REPLY, NAMED, ANOTHERS],
+        status: BadReply,
+        listed: b"",
+        line: b"pulse_rw: bad reply at 90\n",
+    },
+    Row {
+        words: "ctl --socket s kill 0",
+        pieces: &[REPLY, NAMED, LISTED],
+        status: BadReply,
+        listed: b"",
+        line: b"pulse_rw: bad reply at 90\n",
+    },
+    Row {
+        words: "ctl --socket s list",
+        pieces: &[REPLY],
+        status: Gone,
+        listed: b"",
+        line: b"pulse_rw: server gone\n",
+    },
+    Row {
+        words: "ctl --socket s list",
+        pieces: &[b"\0\0\0\x0f\0\0\0\0"],
+        status: Gone,
+        listed: b"",
+        line: b"pulse_rw: server gone\n",
+    },
 ];
 
 // A server that sends these pieces, and takes what it is sent.
@@ -150,12 +150,11 @@ fn gains<R: Machine>(
 }
 
 fn answers<R: Machine>(rt: &R, row: &Row) -> Mem<bool> {
-    let (words, pieces, status, listed, line) = *row;
     let alloc = rt.alloc();
     let mut servers = Vec::new(alloc);
-    servers.push(server(alloc, pieces)?)?;
+    servers.push(server(alloc, row.pieces)?)?;
     let mut host = dialling(rt, servers)?;
-    Ok(gains(rt, words, 256, &mut host, (listed, line)) == Ok(Some(status)))
+    Ok(gains(rt, row.words, 256, &mut host, (row.listed, row.line)) == Ok(Some(row.status)))
 }
 
 #[test]
