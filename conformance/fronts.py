@@ -1,7 +1,7 @@
 """Packets that end early, or a byte too late: each command with fields of every kind that it has, cut off at each of its bytes."""
 
 from maker import make
-from packets import COMMANDS, LATER, NEWEST, OLDEST, RECORDERS
+from packets import COMMANDS, LATER, NEWEST, OLDEST, RECORDERS, SAMPLERS
 from recording import read_session
 
 FIELDS = {
@@ -35,7 +35,7 @@ def thrown_fronts():
     """The head of the first packet is cut off at each byte too, and each packet has a byte too many at last. Each has a connection of its own.
     Those that have more fields at later versions come again at the last one. AUTH's isn't among them: no connection says it twice."""
     lines = ["# Each command cut off at each of its bytes, and with a byte too many: it ends its connection where it is too short, or at the byte left over."]
-    first = [word for word in COMMANDS if word not in ("auth", *RECORDERS)]
+    first = [word for word in COMMANDS if word not in ("auth", *RECORDERS, *SAMPLERS)]
     again = [word for word in LATER if word not in RECORDERS]
     return "\n".join([*lines, HEADER, *cut_off({OLDEST: first, NEWEST: again}), "end", ""])
 

@@ -5,10 +5,11 @@ import strict
 import wire
 from handlers import CONTROLS, Handlers, eight, usec
 from mixer import Sink
-from packets import COMMANDS, OLDEST, RECORDERS, read_packet
+from packets import COMMANDS, OLDEST, RECORDERS, SAMPLERS, read_packet
 from words import NONE
 
 RECORDER_NUMBERS = [COMMANDS[word][0] for word in RECORDERS]
+OF_MODES = RECORDER_NUMBERS + [COMMANDS[word][0] for word in SAMPLERS]
 
 
 class Client:
@@ -180,8 +181,8 @@ class Server(Handlers):
 
     def packet(self, conn, packet):
         client = self.clients[conn]
-        if strict.number_of(packet) in RECORDER_NUMBERS:
-            return self.recorder(conn, packet)
+        if strict.number_of(packet) in OF_MODES:
+            return self.of_a_mode(conn, packet)
         read = read_packet(packet, client.version)
         if read is None:
             over = read_packet(packet[:-1], client.version) is not None
@@ -195,8 +196,8 @@ class Server(Handlers):
             return self.do_stream(conn, tag, word, values)
         return getattr(self, "do_" + word.replace("-", "_"), self.nothing)(conn, tag, values)
 
-    def recorder(self, conn, packet):
-        """A command of record streams, which only a mode of its own knows: its fields aren't read."""
+    def of_a_mode(self, conn, packet):
+        """A command of record streams or of samples, which only a mode of its own knows: its fields aren't read."""
         client = self.clients[conn]
         head, fault = strict.read(packet, (strict.NUMBER, strict.NUMBER), ends=False)
         if fault:

@@ -65,6 +65,7 @@ class Bytes(unittest.TestCase):
     def test_command_numbers(self):
         numbers = {
             "create": 3, "delete": 4, "create-record": 5, "delete-record": 6, "auth": 8, "name": 9, "lookup-sink": 10, "drain": 12, "latency": 14,
+            "upload": 15, "delete-upload": 16, "finish-upload": 17, "play-sample": 18, "remove-sample": 19,
             "server-info": 20, "sink-info": 21, "sink-infos": 22, "source-infos": 24, "module-infos": 26,
             "client-info": 27, "client-infos": 28, "input-info": 29, "input-infos": 30, "source-output-infos": 32,
             "sample-infos": 34, "subscribe": 35, "sink-volume": 36, "volume": 37, "sink-mute": 39, "cork": 41,

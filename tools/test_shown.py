@@ -56,6 +56,8 @@ class Shown(unittest.TestCase):
             "create-record 1 tag 40 s16le 1 48000 map 0", "delete-record 1 tag 41 stream 0",
             "create-record 1 tag 42 s24be 2 44100 map 1,2 index 3 source out.monitor maxlength 9 corked fragsize 6 no_remap fix_rate "
             "peak_detect a=b direct_input 7",
+            "upload 1 tag 43 name beep s24be 2 44100 map 1,2 length 12 a=b", "delete-upload 1 tag 44 stream 0", "finish-upload 1 tag 45 stream 0",
+            'play-sample 1 tag 46 index 3 sink out volume 32768 name "a b" a=b', "remove-sample 1 tag 47 name beep",
             'name 1 tag 39 "a=b"="c\\x01\\\\\\"d\u00e4" application.name="my player"', "packet 1 hex 4c000000ff",
             "bytes 1 hex 0102", "bytes 1 hex 030405",
         ]
