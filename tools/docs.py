@@ -4,7 +4,7 @@
   tools/docs.py [FILE..]        each fault of them in a line: the file, the line and the cause
   tools/docs.py --count         how many bytes each document has, and how many faults of each kind
 
-A fault is a line over 160 characters outside of tables and code, a link to nothing, a numbered point (`- **7** ..`) whose number another has, and the name of
+A fault is a document with more bytes than its reader has time for (`SIZES` has how many), a line over 160 characters outside of tables and code, a link to nothing, a numbered point (`- **7** ..`) whose number another has, and the name of
 a crate, a file or a function that isn't there. Names are looked at in backticks, and paths below docs/, tools/, conformance/, examples/, crates/, package/ and man/ wherever they stand. A crate is `px_world`, a
 file `px_world/src/event.rt`, `src/event.rt` (of a crate that the paragraph names, or of any), `event.rt` or `docs/SERVING.md`, a function `px_app::run`,
 `World::event` or `event.rt: event`. A name with an underscore or with two capitals, as `worked_rows` or `IsPlayed`, must stand somewhere in the sources. A word of
@@ -21,7 +21,17 @@ from words import Wrong
 
 TOP = os.path.dirname(os.path.dirname(os.path.abspath(__file__)))
 WIDEST = 160
-KINDS = "long", "link", "crate", "file", "name", "number"
+KINDS = "size", "long", "link", "crate", "file", "name", "number"
+# how many bytes a document has at most; what is longer goes to docs/history/
+SIZES = {
+    "README.md": 5_120,
+    "HACKING.md": 8_192,
+    "docs/ARCHITECTURE.md": 12_288,
+    "docs/BELIEVE.md": 10_240,
+    "docs/BENCHMARKS.md": 6_144,
+    "docs/DECISIONS.md": 42_000,
+    "docs/PROVED.md": 32_768,
+}
 FOLDERS = "docs|tools|conformance|examples|crates|package|man|bench"
 PATH = re.compile(rf"(?<![\w./-])(?:\./)?((?:{FOLDERS})/[\w./-]*[\w/-])")
 FILE = re.compile(r"([\w.-]+(?:/[\w.-]+)*\.(?:rt|antt|py|sh|md|c|edit))(?:: (\w+))?")
@@ -185,10 +195,18 @@ def number_faults(lines):
     return found
 
 
+def size_faults(path, text):
+    """That a document has more bytes than it may, at the line of the first of these, or nothing."""
+    data, most = text.encode(), SIZES.get(path)
+    if most is None or len(data) <= most:
+        return []
+    return [(data.count(b"\n", 0, most) + 1, "size", f"{path} has {len(data):,} bytes, and {most:,} are the most: what is longer goes to docs/history/")]
+
+
 def faults_of(sources, path, text):
     """The faults of a document: the line, the kind and the cause of each."""
     lines = text.split("\n")
-    kinds, found = kinds_of(lines), number_faults(lines)
+    kinds, found = kinds_of(lines), size_faults(path, text) + number_faults(lines)
     for number, (line, kind, near, above) in enumerate(zip(lines, kinds, paragraphs(lines, kinds), heading_crates(lines)), 1):
         if kind == "text" and len(line) > WIDEST:
             found.append((number, "long", f"{len(line)} characters, and {WIDEST} are the most"))
@@ -220,9 +238,9 @@ def main(words):
         print(wrong, file=sys.stderr)
         return 1
     if words == ["--count"]:
-        print(f"{'':24}  bytes" + "".join(f"{kind:>7}" for kind in KINDS))
+        print(f"{'':24}  bytes   most" + "".join(f"{kind:>7}" for kind in KINDS))
         for path in asked:
-            print(f"{path:24}{os.path.getsize(os.path.join(TOP, path)):7}" + "".join(f"{sum(1 for it in found if it[0] == path and it[2] == kind):7}" for kind in KINDS))
+            print(f"{path:24}{os.path.getsize(os.path.join(TOP, path)):7}{SIZES.get(path, ''):>7}" + "".join(f"{sum(1 for it in found if it[0] == path and it[2] == kind):7}" for kind in KINDS))
     else:
         for path, number, _, cause in found:
             print(f"{path}:{number}: {cause}")

@@ -44,6 +44,17 @@ class Documents(unittest.TestCase):
         self.assertEqual(self.faults(f"{'x' * 160}\n{long}\n| {long} |\n\n    {long}\n\n```\n{long}\n```\n"), ["2: 161 characters, and 160 are the most"])
         self.assertEqual(self.faults(f"a\n    {long}\n"), ["2: 165 characters, and 160 are the most"])
 
+    def test_sizes(self):
+        line = "x" * 127 + "\n"  # 128 bytes, so 64 of them are 8,192
+        self.assertEqual(self.faults(line * 64, "HACKING.md"), [])
+        over = "65: HACKING.md has 8,193 bytes, and 8,192 are the most: what is longer goes to docs/history/"
+        self.assertEqual(self.faults(line * 64 + "x", "HACKING.md"), [over])
+        self.assertEqual(self.faults(line * 63 + "\u00e4" * 64 + "\n", "HACKING.md"), [over.replace("65", "64")])
+        self.assertEqual(self.faults(line * 1_000, "docs/SERVING.md"), [])
+        # each document that has a size is there, and the rooms that its readers were promised are not widened unseen
+        self.assertEqual([name for name in docs.SIZES if not os.path.exists(os.path.join(docs.TOP, name))], [])
+        self.assertEqual([docs.SIZES[name] for name in ("README.md", "HACKING.md", "docs/ARCHITECTURE.md", "docs/BENCHMARKS.md")], [5_120, 8_192, 12_288, 6_144])
+
     def test_numbers(self):
         self.assertEqual(self.faults("- **1** One.\n- **3** Three, **1** and **1**.\n\n## More\n- **2** Two.\n- **1** Again.\n"), ["6: 1 is the number of line 1 too"])
 
