@@ -17,8 +17,8 @@ import re
 import sys
 
 import definitions
-from command import asked, ended
-from crates import crates_of, read
+from command import asked, ended, read
+from crates import crates_of
 from definitions import Definition, bound_in, chunks, file_of, read_code, read_definitions, told, tokens_of
 from marked import Marked
 from words import Wrong

@@ -1,4 +1,4 @@
-"""What the commands of tools/ share: how they end, and how they keep a cookie to its owner."""
+"""What the commands of tools/ share: how they end, how they read a text, and how they keep a cookie to its owner."""
 
 import os
 import stat
@@ -32,6 +32,16 @@ def asked(act, page):
         return 1
     print(page, file=sys.stderr)
     return 2
+
+
+def read(path):
+    """The text of a file. Where it isn't in UTF-8 the line and the byte are told."""
+    try:
+        with open(path, encoding="utf-8") as file:
+            return file.read()
+    except UnicodeDecodeError as fault:
+        line = fault.object.count(b"\n", 0, fault.start) + 1
+        raise Wrong(f"{path}:{line}: no text in UTF-8: the byte 0x{fault.object[fault.start]:02x}") from None
 
 
 def keep_private():

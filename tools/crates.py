@@ -11,7 +11,7 @@ A crate of level 1 stands on no crate of the repository, any other stands a leve
 import os
 import sys
 
-from command import asked, ended
+from command import asked, ended, read
 from marked import Marked
 from words import Wrong
 
@@ -147,11 +147,6 @@ def counts(text, top):
     wide = max(len(row[0]) for row in rows)
     head = f"{'crate':{wide}}  level     src   specs  proofs"
     return [head, *(f"{name:{wide}}  {level:>5}  {code:>6}  {specs:>6}  {proofs:>6}" for name, level, code, specs, proofs in rows)]
-
-
-def read(path):
-    with open(path, encoding="utf-8") as file:
-        return file.read()
 
 
 def act(words, text):

@@ -14,8 +14,8 @@ import os
 import re
 import sys
 
-from command import ended
-from crates import KIT, crates_of, read
+from command import ended, read
+from crates import KIT, crates_of
 from definitions import named_in
 from words import Wrong
 
@@ -64,7 +64,7 @@ class Sources:
         if os.path.splitext(path)[1] in SOURCES and not path.startswith("docs/"):
             try:
                 text = read(os.path.join(self.top, path))
-            except UnicodeDecodeError:
+            except Wrong:  # no text
                 return
             self.words.update(re.findall(r"\w+", text))
             if path.endswith(".rt") and "/src/" in path:

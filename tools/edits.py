@@ -7,18 +7,13 @@ import os
 import re
 import sys
 
-from command import ended
+from command import ended, read
 from words import Wrong
 
 FOLDERS = ("must-fail", "edits")
 SAID = re.compile(r"rt: must-fail ([^/ ]+)/(\S+)\.edit: (.*)")
 REFUSED = "refused, as it must be"
 CLAUSE = re.compile(r"(?:note: )?(?:\./)?(\S+?:\d+):\d+: .*?\(`([^`]+)`\)")
-
-
-def read(path):
-    with open(path, encoding="utf-8") as file:
-        return file.read()
 
 
 def crates_of(top, names):

@@ -15,7 +15,7 @@ import sys
 import packets
 from command import ended, keep_private
 from recording import SINK_FORMATS, SinkSpec, spelled_header
-from words import Wrong, number_of
+from words import Wrong, number_of, quoted
 
 # pulse/channelmap.c, the default layout: mono; left and right; then front, rear, centre, LFE and sides as they are added
 LAYOUTS = {
@@ -40,7 +40,7 @@ def sink_of(word, guard, depth):
     try:
         return sink_said(word, guard, depth)
     except Wrong as wrong:
-        raise Wrong(f"{word}: {wrong}") from None
+        raise Wrong(f"{word or quoted(b'')}: {wrong}") from None
 
 
 def sink_said(word, guard, depth):
@@ -52,8 +52,8 @@ def sink_said(word, guard, depth):
         raise Wrong(f"a sink can't have the format {form}")
     channels = number_of(channels or "2", "the count of channels", 1, 32)
     rate = number_of(rate or "48000", "the rate", 1, 192_000)
-    depth = max(rate // 10, 1) if depth is None else number_of(depth, "the depth", 1, 65_536)
-    guard = min(rate // 100, depth) if guard is None else number_of(guard, "the guard", 0, depth)
+    depth = max(rate // 10, 1) if depth is None else number_of(depth, "--depth", 1, 65_536)
+    guard = min(rate // 100, depth) if guard is None else number_of(guard, "--guard", 0, depth)
     data = name.encode()
     if not 1 <= len(data) <= 64 or not all(0x21 <= byte <= 0x7E for byte in data) or data[:1] == b"@" or b"/" in data:
         raise Wrong("a name has 1 to 64 printable ASCII letters without blanks and slashes, the first of them not @")

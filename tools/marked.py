@@ -1,5 +1,6 @@
 """A block of a document that a tool makes, between two lines that mark its place."""
 
+from command import read
 from words import Wrong
 
 
@@ -34,7 +35,6 @@ class Marked:
 
     def write(self, wanted, path):
         """Puts these lines into a file."""
-        with open(path, encoding="utf-8") as file:
-            changed = self.written(wanted, file.read(), path)
+        changed = self.written(wanted, read(path), path)
         with open(path, "w", encoding="utf-8") as file:
             file.write(changed)

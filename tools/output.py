@@ -86,12 +86,12 @@ def wav_samples(code, sound):
     return bytes(pieces)
 
 
-def wav(data, session, name):
-    """The WAV file of what the sink of that name played, and what ended the output early, or None."""
+def wav(data, session, name, file="the session"):
+    """The WAV file of what the sink of that name played, and what ended the output early, or None. `file` is where the session is from."""
     sinks = session.sinks
     at = next((at for at, sink in enumerate(sinks) if sink.name == name.encode()), None)
     if at is None:
-        raise Wrong(f"the session has no sink {name}")
+        raise Wrong(f"{file} has no sink {name}: it has {', '.join(sink.name.decode() for sink in sinks)}")
     records, fault = records_of(data, sinks, "played")
     return wav_file(sinks[at].spec, b"".join(record[3] for record in records if record[:2] == (3, at))), fault
 
@@ -165,7 +165,7 @@ def options_of(words):
 def sound_file(data, session, given):
     """The WAV file that the options ask for, and what ended the output early, or None."""
     if "--sink" in given:
-        return wav(data, session, *given["--sink"])
+        return wav(data, session, *given["--sink"], *given["--session"])
     conn, stream = given["--record"]
     return wav_of_record(data, session, number_of(conn, "a connection"), number_of(stream, "a stream", 0, NONE - 1))
 

@@ -35,7 +35,8 @@ else
     say "$top/crates/pulse_rw/out/pulse_rw isn't there, or isn't built from these sources: run ./pulse_rw once, which proves and builds it"
     exit 1
 fi
-[ -f "$program" ] || { say "$program: there is no such file"; exit 1; }
+[ -e "$program" ] || { say "$program: there is no such file"; exit 1; }
+[ -f "$program" ] || { say "$program: it is no program"; exit 1; }
 [ -d "$to" ] || { say "$to: there is no such folder"; exit 1; }
 command -v dpkg-deb >/dev/null || { say "the command dpkg-deb isn't there"; exit 1; }
 
@@ -100,5 +101,5 @@ chmod 644 "$root/DEBIAN/control" "$root/DEBIAN/md5sums"
 
 name=pulse-rw_${version}_$(dpkg --print-architecture).deb
 SOURCE_DATE_EPOCH=${SOURCE_DATE_EPOCH:-$(git -C "$top" log -1 --format=%ct 2>/dev/null || echo 0)} \
-    dpkg-deb --root-owner-group --build "$root" "$to/$name" >/dev/null
+    dpkg-deb --root-owner-group --build "$root" "$to/$name" >/dev/null 2>"$room/said" || { say "$to/$name: $(tail -n 1 "$room/said")"; exit 1; }
 echo "$to/$name"

@@ -1,5 +1,7 @@
 """The commands that clients send, as packets and as words, at each version of the protocol from 13 to 18."""
 
+import re
+
 import wire
 from words import (
     NONE, PROPERTY, QUOTED, Words, Wrong, hex_of, hex_words, number_of, number_word, quoted, unquoted,
@@ -37,8 +39,11 @@ def hear_text(words, what="a string"):
 
 
 def format_of(word):
-    code = FORMATS.index(word) if word in FORMATS else None
-    return number_of(word, "a format", 0, 255) if code is None else code
+    if word in FORMATS:
+        return FORMATS.index(word)
+    if not re.fullmatch(r"-?[0-9]+|0x[0-9a-fA-F]+", word):
+        raise Wrong(f"{word} is no format: there are {', '.join(FORMATS)}, and numbers")
+    return number_of(word, "a format", 0, 255)
 
 
 def hear_spec(words):

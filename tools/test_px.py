@@ -29,7 +29,7 @@ class OneCommand(InARoom):
 
     def test_errors_name_the_file_the_place_and_the_cause(self):
         text, bad = self.path("a.txt", b"sink out s16le 1 48000 map 0 guard 1 depth 9\nfoo 1\n"), self.path("b.txt", b"# one\n\xff\n")
-        cut, out = self.path("cut.prs", b"PRS1"), self.path("x.out", b"x")
+        cut, out, whole = self.path("cut.prs", b"PRS1"), self.path("x.out", b"x"), os.path.join(TOP, "examples", "two_clients.prs")
         for words, said in (
             (("session", "make", text), f"{text}:2: foo begins no line"),
             (("session", "at", "999", text), f"{text}:2: foo begins no line"),
@@ -38,15 +38,25 @@ class OneCommand(InARoom):
             (("session", "show", cut), f"{cut}: refused at 4: truncated"),
             (("output", "show", out), f"{out}: no record begins with 120, at 0"),
             (("picture", out, "--session", cut), f"{cut}: refused at 4: truncated"),
-            (("header", "out:foo"), "out:foo: a format is a number, which foo isn't"),
+            (("header", "out:foo"), "out:foo: foo is no format: there are u8, alaw,"),
             (("header", "a", "a"), "a a: there are 1 to 16 sinks, each with a name of its own"),
+            (("header", "out", "--depth", "x"), "out: --depth is a number, which x isn't"),
+            (("header", ""), '"": a name has 1 to 64'),
+            (("output", "wav", out, "--session", whole, "--sink", "nope"), f"{out}: {whole} has no sink nope: it has out"),
+            (("believed", "--check", bad), f"{bad}:2: no text in UTF-8: the byte 0xff"),
+            (("believed", "--write", bad), f"{bad}:2: no text in UTF-8: the byte 0xff"),
             (("believed", "--check", out), f"{out}: a table stands between one line"),
+            (("package", "--program", TOOLS), f"package.sh: {TOOLS}: it is no program"),
             (("package", "--program", "/gone"), "package.sh: /gone: there is no such file"),
         ):
             status, wrote, err = px(*words)
             self.assertEqual((status, wrote, err[: len(said)]), (1, "", said), words)
         for words in ((), ("other",), ("session",), ("picture", out), ("believed", "other"), ("package", "other")):
             self.assertEqual(px(*words)[0:2], (2, ""), words)
+        for words, said in ((("",), 'px: there is no word "";'), (("help", "other"), "px: there is no word other;"), (("picture", out, "--sink", "out"), "Draws a run:")):
+            status, wrote, err = px(*words)
+            self.assertEqual((status, wrote, err[: len(said)]), (2, "", said), words)
+        self.assertEqual(px("help", "header"), px("header", "--help"))
 
 
 if __name__ == "__main__":
