@@ -13,6 +13,7 @@ PROGRAM = f"""#!{sys.executable}
 import sys
 sys.dont_write_bytecode = True
 sys.path[:0] = [{os.path.join(TOP, "conformance")!r}, {os.path.join(TOP, "tools")!r}]
+import cached
 import monitors
 import reckon
 import recording
@@ -22,7 +23,7 @@ if sys.argv[1] == "convert":
     said = bytearray(recording.spelled_header(read.cookie, read.sinks, recording.TWO))
     said += b"".join(recording.spelled_event(event, recording.TWO) for event in read.events)
 else:
-    said = bytearray((monitors if "--monitor" in sys.argv else reckon).reckoned(session))
+    said = bytearray({"--monitor": monitors, "--samples": cached}.get(sys.argv[-1], reckon).reckoned(session))
 FLIP
 sys.stdout.buffer.write(said)
 """
