@@ -49,9 +49,9 @@ def raise_in(events):
     """Raises the numbers in the packets that these events of one client carry together."""
     data, at = bytearray(b"".join(event[2] for event in events)), 0
     for descriptor, payload in whole_frames(data):
-        raised = raised_in(payload) if descriptor.channel == CONTROL else payload
-        if raised != payload:
-            put(events, at + 20, raised)
+        said = raised_in(payload) if descriptor.channel == CONTROL else payload
+        if said != payload:
+            put(events, at + 20, said)
         at += 20 + len(payload)
 
 
@@ -59,8 +59,7 @@ def raised_in(packet):
     """The packet, with the number of the client that it names one more."""
     if packet[:5] not in BY_NUMBER or packet[10:11] != b"L" or len(packet) < 15:
         return packet
-    client = int.from_bytes(packet[11:15], "big")
-    return packet[:11] + min(client + 1, NONE).to_bytes(4, "big") + packet[15:]
+    return packet[:11] + raised(int.from_bytes(packet[11:15], "big")).to_bytes(4, "big") + packet[15:]
 
 
 def put(events, at, packet):

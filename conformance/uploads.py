@@ -122,13 +122,14 @@ def kept(conn, at, name, value, length=2):
 
 
 def crowded():
-    """256 samples and one more, which waits until another is removed; one that takes the place of its name needs no room."""
+    """256 samples and one more, which waits until it has its bytes and another is removed; one that takes the place of its name needs no room."""
     lines = ["# There are at most 256 samples: one more isn't kept, and its upload stays; in place of another of its name, or of one that is removed, it is.", HEADER]
     lines += ["connect 1", "auth 1 version 13"]
     for at in range(256):
         lines += kept(1, at, f"n{at}", 0x80 + at % 50)
     again = f"finish-upload 1 stream {FIRST + 256}"
-    lines += [*kept(1, 256, "more", 0xFF), *kept(1, 257, "n7", 0x90), again, "remove-sample 1 name n0", again, again]
+    begun, data, _ = kept(1, 256, "more", 0xFF)
+    lines += [begun, again, data, again, *kept(1, 257, "n7", 0x90), again, "remove-sample 1 name n0", again, again]
     lines += [*kept(1, 258, "n0", 0x81), f"delete-upload 1 stream {FIRST + 258}"]
     # the eighth is the one that came later
     lines += ["play-sample 1 name n0", "play-sample 1 name n7", "turn out 0 take 4", "turn out 2 take 0"]
