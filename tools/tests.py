@@ -20,6 +20,7 @@ import test_picture
 import test_px
 import test_recorders
 import test_refused
+import test_samples
 import test_session
 import test_shown
 
@@ -29,6 +30,7 @@ MODULES = (
     test_refused,
     test_output,
     test_recorders,
+    test_samples,
     test_picture,
     test_commands,
     test_conformance,
