@@ -23,6 +23,7 @@ import test_refused
 import test_samples
 import test_session
 import test_shown
+import test_waves
 
 MODULES = (
     test_session,
@@ -31,6 +32,7 @@ MODULES = (
     test_output,
     test_recorders,
     test_samples,
+    test_waves,
     test_picture,
     test_commands,
     test_conformance,
