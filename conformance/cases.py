@@ -1,19 +1,21 @@
-"""The runs of rows: as their sessions are, cut otherwise, converted, and by `replay --monitor` in place of `replay`."""
+"""The runs of rows: as their sessions are, cut otherwise, converted, and by `replay --monitor` and `replay --samples` in place of `replay`."""
 
 import copy
 import re
 
-from packets import COMMANDS, RECORDERS, Spoken
+from packets import COMMANDS, RECORDERS, SAMPLERS, Spoken
 from records import whole_frames
 from recording import TWO, Place, Session, read_event, read_header, spelled_bytes, spelled_event, spelled_header
+from renumbered import fits, renumbered
 from wire import CONTROL, number
 from words import Wrong
 
 WHOLE = "whole"
-REPLAY, MONITOR = ["replay"], ["replay", "--monitor"]
+REPLAY, MONITOR, SAMPLES = ["replay"], ["replay", "--monitor"], ["replay", "--samples"]
+LONGEST_CUT = 4_000_000  # bytes of a session that is cut in small pieces too
 REFUSAL = re.compile(r"pulse_rw: refused at ([0-9]+): (.*\n)")
 KILL = number(COMMANDS["kill-client"][0])  # how a KILL_CLIENT begins
-RECORDS = tuple(number(COMMANDS[word][0]) for word in RECORDERS)  # how packets of these commands begin
+RECORDS, UPLOADS = (tuple(number(COMMANDS[word][0]) for word in words) for words in (RECORDERS, SAMPLERS))  # how packets of these commands begin
 
 
 def parts_of(session):
@@ -83,32 +85,44 @@ def cases_of(rows, cuts, convert):
         for size in cuts:
             if size is None:
                 yield row.name, row, row.session
-            elif row.status == 0 and row.form == "records":
+            elif row.status == 0 and row.form == "records" and (size == WHOLE or len(row.session) <= LONGEST_CUT):
                 label = WHOLE if size == WHOLE else f"in pieces of {size}"
                 yield f"{row.name}, {label}", row, cut(row.session, size)
         if convert and row.session and row.words != ["convert"] and not row.ends:
             yield from conversions_of(row)
 
 
-def all_cases(rows, cuts, convert, monitor):
-    """(label, row, session) for each run, those of ordinary rows by `replay --monitor` last."""
+def all_cases(rows, cuts, convert, monitor, samples):
+    """(label, row, session) for each run, those of ordinary rows by `replay --monitor` and by `replay --samples` last."""
     yield from cases_of(rows, cuts, convert)
-    if monitor:
-        ordinary = [monitored(row) for row in rows if row.words == REPLAY and is_ordinary(row)]
-        yield from ((f"{label}, by --monitor", row, session) for label, row, session in cases_of(ordinary, cuts, False))
+    for asked, label, others in ((monitor, "by --monitor", monitored), (samples, "by --samples", sampled)):
+        if asked:
+            cases = cases_of(others(row for row in rows if row.words == REPLAY), cuts, False)
+            yield from ((f"{it}, {label}", row, session) for it, row, session in cases)
 
 
-def monitored(row):
-    """The row by the other word, which makes no difference where no client makes a record stream."""
-    row = copy.copy(row)
-    row.words = MONITOR
-    return row
+def monitored(rows):
+    """Those of the rows that give the same by `replay --monitor`: no client makes a record stream, and the sweep of an event doesn't matter."""
+    for row in rows:
+        if not sends(row.session, RECORDS) and is_swept_alike(row):
+            row = copy.copy(row)
+            row.words = MONITOR
+            yield row
 
 
-def is_ordinary(row):
-    """Whether the other word makes no difference: no record stream is made, and no client is ended before the last frame of an event, after
-    which by that word it is there no longer. A session that is played whole gives the same for any cut, so there the latter may be."""
-    return not has_recorders(row.session) and (row.status == 0 or not kills_within(row.session))
+def sampled(rows):
+    """Those of the rows that give the same by `replay --samples` but for the numbers of clients: no client sends a command of samples, and there is
+    room for the server's own connection."""
+    for row in rows:
+        read = parts_of(row.session)[0]
+        if read and fits(read.events) and not sends(row.session, UPLOADS) and is_swept_alike(row) and row.form == "records":
+            yield renumbered(row, SAMPLES, read)
+
+
+def is_swept_alike(row):
+    """Whether it makes no difference that each frame is an event of its own: no client is ended before the last frame of an event, after which it
+    would be there no longer. A session that is played whole gives the same for any cut, so there it may be."""
+    return row.status == 0 or not kills_within(row.session)
 
 
 def kills_within(session):
@@ -126,8 +140,8 @@ def kills_within(session):
     return False
 
 
-def has_recorders(session):
-    """Whether a client sends one of the commands of record streams once its AUTH was taken."""
+def sends(session, fronts):
+    """Whether a client sends a packet with one of these fronts once its AUTH was taken."""
     read, held, spoken = parts_of(session)[0], {}, Spoken()
     for event in read.events if read else []:
         if event[0] == 1:
@@ -137,7 +151,7 @@ def has_recorders(session):
             data = held.setdefault(event[1], bytearray())
             data += event[2]
             for descriptor, payload in whole_frames(data):
-                if descriptor.channel == CONTROL and payload.startswith(RECORDS) and event[1] in spoken.versions:
+                if descriptor.channel == CONTROL and payload.startswith(fronts) and event[1] in spoken.versions:
                     return True
                 if descriptor.channel == CONTROL:
                     spoken.hear(event[1], payload, read.cookie)

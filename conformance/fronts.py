@@ -8,6 +8,7 @@ FIELDS = {
     "create": "s16le 2 48000 map 1,2 sink out volume 65536,1 media.name=bell",
     "create-record": "s16le 1 48000 map 0 source out.monitor media.name=bell",
     "name": "application.name=bell",
+    "upload": "name bell s16le 1 48000 map 0 length 4 media.name=bell", "play-sample": "sink out volume 1 name bell media.name=bell", "remove-sample": "name bell",
     "lookup-sink": "sink out", "default-sink": "sink out", "sink-info": "sink out",
     "latency": "time 1:2",
     "sink-volume": "sink out volume 65536", "volume": "volume 65536,1",
@@ -45,6 +46,12 @@ def thrown_recorders():
     lines = ["# The commands of record streams cut off at each of their bytes, and with a byte too many: they end their connections as others do."]
     create = RECORDERS[:1]
     return "\n".join([*lines, HEADER, *cut_off({OLDEST: RECORDERS, 14: create, NEWEST: create}), "end", ""])
+
+
+def thrown_samplers():
+    """The same with the five commands of samples, which have the same fields at every version."""
+    lines = ["# The commands of samples cut off at each of their bytes, and with a byte too many: they end their connections as others do."]
+    return "\n".join([*lines, HEADER, *cut_off({OLDEST: SAMPLERS}), "end", ""])
 
 
 def cut_off(words):

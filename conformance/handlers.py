@@ -9,6 +9,7 @@ from packets import NEWEST, OLDEST, fields_at
 from words import NONE
 
 WORD = (1 << 32) - 1
+KILLED = 64  # the message to a stream's client
 CONTROLS = ("drain", "latency", "cork", "flush", "trigger", "prebuf", "attributes")
 
 
@@ -315,3 +316,22 @@ class Handlers:
         for _, _, waited, *_ in self.drop(number):
             self.error(conn, waited, 5)
         return None
+
+    # kills: who asks is answered first, also where it ends itself
+
+    def do_kill_client(self, conn, tag, values):
+        found = [number for number, client in self.clients.items() if client.number == values[0] and not client.ended]
+        if not found:
+            return self.error(conn, tag, 5)
+        self.send(conn, 2, tag)
+        return self.end(found[0], 3)
+
+    def do_kill_input(self, conn, tag, values):
+        stream = self.going(values[0])
+        if stream is None:
+            return self.error(conn, tag, 5)
+        self.send(conn, 2, tag)
+        del self.clients[stream.owner].streams[stream.number]
+        for _, _, waited, *_ in self.drop(values[0]):
+            self.error(stream.owner, waited, 5)
+        return self.send(stream.owner, KILLED, NONE, wire.number(stream.number))

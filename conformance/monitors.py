@@ -105,14 +105,6 @@ class Monitored(reckon.Server):
         self.sieved.append((2, conn, wire.packet_frame(packet)))
         return super().packet(conn, packet)
 
-    def do_kill_client(self, conn, tag, values):
-        """The reply comes first, also where it is the client's own."""
-        found = [number for number, client in self.clients.items() if client.number == values[0] and not client.ended]
-        if not found:
-            return self.error(conn, tag, NOENTITY)
-        self.send(conn, 2, tag)
-        return self.end(found[0], 3)
-
     # the mode's own commands
 
     def own(self, conn, client, number, packet):

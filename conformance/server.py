@@ -9,7 +9,8 @@ from packets import COMMANDS, OLDEST, RECORDERS, SAMPLERS, read_packet
 from words import NONE
 
 RECORDER_NUMBERS = [COMMANDS[word][0] for word in RECORDERS]
-OF_MODES = RECORDER_NUMBERS + [COMMANDS[word][0] for word in SAMPLERS]
+SAMPLER_NUMBERS = [COMMANDS[word][0] for word in SAMPLERS]
+OF_MODES = RECORDER_NUMBERS + SAMPLER_NUMBERS
 
 
 class Client:

@@ -209,11 +209,11 @@ def thrown_lanes(number, turns):
     return "\n".join([*said, *lines[:3], "", *taken(lines, random.Random(number)), "end", ""])
 
 
-def taken(lines, dice, front=()):
+def taken(lines, dice, front=(), server_of=Server):
     """The events of these lines, which follow others that make none; each turn takes some of the messages that wait and plays no more
     frames than are there, and some notices are collected after it."""
     cookie, sinks, events, _ = read_session(make("\n".join([*front, *lines, "end", ""])))
-    server = Server(cookie, sinks)
+    server = server_of(cookie, sinks)
     for line, event in zip(lines[len(sinks) :], events):
         if event[0] != 5:
             yield line

@@ -5,16 +5,17 @@ from functools import lru_cache
 
 import asking
 import packets
+import waves
 import wire
 from recording import FORMS, ONE, SINK_FORMATS, TWO, Scene, SinkSpec, spelled_bytes, spelled_event, spelled_header, spelled_turn
 from words import LONGEST, SAMPLES, Words, Wrong, hex_of, lines_of, number_of, unquoted, words_of
 
 
 class Maker:
-    """Makes a session, line by line."""
+    """Makes a session, line by line. Names of files that its lines have begin in a folder."""
 
-    def __init__(self):
-        self.scene = Scene()
+    def __init__(self, folder):
+        self.scene, self.folder = Scene(), folder
         self.made = bytearray()
         self.form, self.piece = ONE, ONE.piece
         self.front = 0  # how many bytes of the header the lines before the first sink make
@@ -114,10 +115,18 @@ class Maker:
             conn = connection(words)
             words.takes("hex")
             self.cut(conn, hex_of(words))
+        elif word == "upload" and "from" in waves.places_of(words.words[words.at :]):
+            fields = words.rest()
+            stream = self.scene.next_upload(connection(Words(fields[:1])))
+            for line in waves.kept(fields, self.folder, stream):
+                self.frame(line[0], Words(line[1:]))
         else:
-            conn, frame = heard_frame(word, words, self.scene)
-            self.cut(conn, frame)
-            self.scene.saw(conn, frame)
+            self.frame(word, words)
+
+    def frame(self, word, words):
+        conn, frame = heard_frame(word, words, self.scene)
+        self.cut(conn, frame)
+        self.scene.saw(conn, frame)
 
     def sink_number(self, words):
         word = words.take("a sink")
@@ -225,9 +234,9 @@ def heard_tone(words, spec, start):
     return b"".join(wire.sample_bytes(spec[0], value) * spec[1] for value in values)
 
 
-def made_lines(text):
+def made_lines(text, folder):
     """The session of a text, and for each line that makes bytes of it (its number, the line, how many bytes there are then)."""
-    maker, number, lines = Maker(), 0, []
+    maker, number, lines = Maker(folder), 0, []
     for number, line in lines_of(text):
         try:
             words = Words(words_of(line))
@@ -241,14 +250,14 @@ def made_lines(text):
     return bytes(maker.made), lines
 
 
-def make(text):
-    """The session of a text."""
-    return made_lines(text)[0]
+def make(text, folder="."):
+    """The session of a text; names of files begin in the folder."""
+    return made_lines(text, folder)[0]
 
 
-def line_at(text, offset):
+def line_at(text, offset, folder="."):
     """The number and the words of the line that makes the byte at an offset."""
-    session, lines = made_lines(text)
+    session, lines = made_lines(text, folder)
     for number, line, count in lines:
         if offset < count:
             return number, " ".join(words_of(line))

@@ -7,6 +7,7 @@ import wire
 from words import Wrong, quoted
 
 SINK_FORMATS = (0, 3, 4, 7, 8, 9, 10, 11, 12)
+FIRST_UPLOAD = 0x80000000  # the number of a connection's first upload
 
 
 class Form(NamedTuple):
@@ -173,20 +174,21 @@ def read_session(data):
 class Scene:
     """What the lines of a session speak of: the cookie, the sinks, and each connection's version, tags and streams.
 
-    The streams of a connection are counted as if the server took each CREATE_PLAYBACK_STREAM."""
+    The streams and the uploads of a connection are counted as if the server took each CREATE_PLAYBACK_STREAM and CREATE_UPLOAD_STREAM."""
 
     def __init__(self):
         self.cookie = bytes(256)
         self.sinks = []
         self.tags = {}
         self.streams = {}
+        self.uploads = {}
         self.sent = {}
         self.spoken = packets.Spoken()
 
     def connect(self, conn):
         self.spoken.connect(conn)
         self.tags[conn] = 0
-        self.streams[conn] = []
+        self.streams[conn], self.uploads[conn] = [], []
 
     def tag(self, conn):
         return self.tags.get(conn, 0)
@@ -195,8 +197,14 @@ class Scene:
         return self.spoken.of(conn)
 
     def spec(self, conn, stream):
-        specs = self.streams.get(conn, [])
-        return specs[stream] if stream < len(specs) else None
+        """The format of a stream, or of an upload."""
+        made, at = (self.streams, stream) if stream < FIRST_UPLOAD else (self.uploads, stream - FIRST_UPLOAD)
+        specs = made.get(conn, [])
+        return specs[at] if at < len(specs) else None
+
+    def next_upload(self, conn):
+        """The number that the next upload of a connection gets."""
+        return FIRST_UPLOAD + len(self.uploads.get(conn, []))
 
     def sink_named(self, index, name):
         for at, sink in enumerate(self.sinks):
@@ -218,6 +226,9 @@ class Scene:
         read = self.spoken.hear(conn, payload, self.cookie)
         if read and read[0] == "create":
             self.create(conn, read[2])
+        elif read and read[0] == "upload":
+            self.sent.pop((conn, self.next_upload(conn)), None)
+            self.uploads.setdefault(conn, []).append(read[2][1])
 
     def create(self, conn, values):
         names = [name for name, _, _ in packets.COMMANDS["create"][1]]

@@ -9,6 +9,7 @@
 docs/RECORDINGS.md says how a text reads. FILE is standard input where it is `-`. A session has its server's cookie, and so has a whole text: the
 file that one of them goes into is made its owner's alone."""
 
+import os
 import sys
 
 from command import ended, keep_private
@@ -22,12 +23,12 @@ from words import Wrong
 def done(words):
     """What the command writes, or None where its words are wrong."""
     if words[:1] == ["make"] and len(words) == 2:
-        return make(contents(words[1]).decode())
+        return make(contents(words[1]).decode(), os.path.dirname(words[1]))
     if words[:1] == ["show"] and len(words) in (2, 3) and words[2:] in ([], ["whole"]):
         text = show(contents(words[1]))
         return (text if words[2:] else short(text)).encode()
     if words[:1] == ["at"] and len(words) == 3 and words[1].isdigit():
-        number, line = line_at(contents(words[2]).decode(), int(words[1]))
+        number, line = line_at(contents(words[2]).decode(), int(words[1]), os.path.dirname(words[2]))
         return f"{words[2]}:{number}: {line}\n".encode()
     return None
 

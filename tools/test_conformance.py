@@ -13,6 +13,7 @@ PROGRAM = f"""#!{sys.executable}
 import sys
 sys.dont_write_bytecode = True
 sys.path[:0] = [{os.path.join(TOP, "conformance")!r}, {os.path.join(TOP, "tools")!r}]
+import cached
 import monitors
 import reckon
 import recording
@@ -22,7 +23,7 @@ if sys.argv[1] == "convert":
     said = bytearray(recording.spelled_header(read.cookie, read.sinks, recording.TWO))
     said += b"".join(recording.spelled_event(event, recording.TWO) for event in read.events)
 else:
-    said = bytearray((monitors if "--monitor" in sys.argv else reckon).reckoned(session))
+    said = bytearray((monitors if "--monitor" in sys.argv else cached if "--samples" in sys.argv else reckon).reckoned(session))
 FLIP
 sys.stdout.buffer.write(said)
 """
@@ -69,6 +70,21 @@ class Running(unittest.TestCase):
         self.assertEqual(self.run_rows("", *rows), (0, f"{len(rows)} passed, 0 failed\n", ""))
         cut = [f"monitors/{name}" for name in ("in_one_event", "in_pieces", "faults_after_its_own")]
         self.assertEqual(self.run_rows("", "--cut", "7", "--convert", *cut), (0, "9 passed, 0 failed\n", ""))
+
+    def test_samples_are_reckoned(self):
+        """All rows of the mode but those that are refused and the one with subscriptions, which the reckoner doesn't know; and the kills, which it needs."""
+        names = {name.rsplit(".", 1)[0] for name in os.listdir(os.path.join(TOP, "conformance", "cache"))}
+        rows = [f"cache/{name}" for name in sorted(names - {"its_number", "its_bytes", "its_close", "its_cut", "subscribed", "largest"})]
+        rows += [f"kills/{name}" for name in ("clients", "itself", "moving", "streams")]
+        self.assertEqual(self.run_rows("", *rows), (0, f"{len(rows)} passed, 0 failed\n", ""))
+        self.assertEqual(self.run_rows("", "--cut", "7", "--convert", "cache/played", "cache/faults"), (0, "6 passed, 0 failed\n", ""))
+
+    def test_rows_of_replay_by_the_word_for_samples(self):
+        """They are played twice, but for those in which a client sends a command of samples, or has the place of the server's own connection."""
+        rows = ("turns/seeks", "kills/streams", "infos/clients", "cache/by_replay", "cache/played", "connections/the_65th")
+        self.assertEqual(self.run_rows("", "--samples", *rows), (0, "9 passed, 0 failed\n", ""))
+        status, said, _ = self.run_rows("said[-3] ^= '--samples' in sys.argv", "--samples", "--cut", "9", "turns/seeks")
+        self.assertEqual((status, said.splitlines()[0], said.splitlines()[-1]), (1, "turns/seeks, in pieces of 9, by --samples", "1 passed, 1 failed"))
 
     def test_rows_of_replay_by_the_other_word(self):
         """They are played twice, but for those in which a client sends a command of record streams."""

@@ -20,8 +20,10 @@ import test_picture
 import test_px
 import test_recorders
 import test_refused
+import test_samples
 import test_session
 import test_shown
+import test_waves
 
 MODULES = (
     test_session,
@@ -29,6 +31,8 @@ MODULES = (
     test_refused,
     test_output,
     test_recorders,
+    test_samples,
+    test_waves,
     test_picture,
     test_commands,
     test_conformance,

@@ -51,6 +51,11 @@ class Words:
         self.at += 1
         return self.words[self.at - 1]
 
+    def rest(self):
+        """All words that are left, which are then taken."""
+        left, self.at = self.words[self.at :], len(self.words)
+        return left
+
     def takes(self, word):
         """Whether the next word is this one; it is then taken."""
         if self.peek() != word:
