@@ -294,13 +294,14 @@ def sink_volumes(count):
 # frames that are mixed
 
 
-def silence(count):
-    """Streams on a sink of eight channels whose one frame lies at the end of what is mixed, with silence before it. The depth is 256
+def silence(count, channels=8):
+    """Streams on a sink of many channels whose one frame lies at the end of what is mixed, with silence before it. The depth is 256
     frames for each stream."""
-    depth, positions = min(256 * count, 65_536), ",".join(map(str, range(1, 9)))
-    yield from (f"sink out s16le 8 48000 map {positions} guard 0 depth {depth}", *FRONT[2:])
-    yield from (STREAM.replace(MONO, f"s16le 8 48000 map {positions}") for _ in range(count))
-    yield from (f"data 1 stream {at} seek absolute offset {16 * (depth - 1)} {at + 1}" for at in range(count))
+    depth, positions = min(256 * count, 65_536), ",".join(map(str, range(1, channels + 1)))
+    kind = f"s16le {channels} 48000 map {positions}"
+    yield from (f"sink out {kind} guard 0 depth {depth}", *FRONT[2:])
+    yield from (STREAM.replace(MONO, kind) for _ in range(count))
+    yield from (f"data 1 stream {at} seek absolute offset {2 * channels * (depth - 1)} {at + 1}" for at in range(count))
     yield from (f"turn out 0 take {3 * count}", f"turn out {depth} take 0")
 
 
