@@ -268,8 +268,11 @@ class Handlers:
         self.send(conn, 2, tag, b"".join(infos.client_info(client) for _, client in sorted(self.known_clients().items())))
 
     def do_subscribe(self, conn, tag, values):
-        """Nobody is told of changes yet."""
-        return self.error(conn, tag, 3) if values[0] & ~0x2FF else self.send(conn, 2, tag)
+        """A mask with a bit for each facility; what is told then, `announce` of the server says."""
+        if values[0] & ~0x2FF:
+            return self.error(conn, tag, 3)
+        self.clients[conn].mask = values[0]
+        return self.send(conn, 2, tag)
 
     # property lists
 

@@ -15,6 +15,7 @@
   conformance/reckon.py --crowded > SESSION.session               a sink with as many streams as there can be, and others that would move to it
   conformance/reckon.py --fronts > SESSION.session                each command cut off at each of its bytes, and with a byte too many
   conformance/reckon.py --loud > SESSION.session                  four such sinks whose streams are as loud as can be
+  conformance/reckon.py --attack NAME COUNT > SESSION.session     one of attacks.py: events that bring little and could cost much
 
 It keeps each sample that was ever written in a map from index to sample, and mixes each frame anew. It knows volumes and mutes,
 the commands of a stream's life and its moves, names and property lists of clients and streams, the infos of sinks, inputs and
@@ -28,6 +29,7 @@ sys.dont_write_bytecode = True
 HERE = os.path.dirname(os.path.realpath(__file__))
 sys.path[:0] = [HERE, os.path.join(os.path.dirname(HERE), "tools")]
 
+import attacks
 import crowds
 import fronts
 import lanes
@@ -65,6 +67,8 @@ def thrown_by(words):
         return THROWS[words[0]](int(words[1]), int(words[2]))
     if len(words) == 3 and words[0] == "--formats":
         return throws.thrown_formats(int(words[1]), words[2])
+    if len(words) == 3 and words[0] == "--attack" and words[1] in attacks.ATTACKS:
+        return attacks.thrown(words[1], int(words[2]))
     return WHOLE[words[0]]() if len(words) == 1 and words[0] in WHOLE else None
 
 

@@ -39,13 +39,11 @@ class Served:
 
     last = None  # the process of the one that was started last
 
-    def __init__(self, program, folder, clients, sinks, *more, word=ONE.magic(), files=None):
+    def __init__(self, program, folder, clients, sinks, *more, word=ONE.magic(), files=None, cookie=None):
         self.program, self.folder = program, folder
-        cookie, header = os.path.join(folder, "cookie"), os.path.join(folder, "desk.hdr")
+        self.cookie = cookie or os.urandom(256)
+        cookie, header = self.file("cookie", self.cookie), os.path.join(folder, "desk.hdr")
         self.socket = os.path.join(folder, "pulse.sock")
-        self.cookie = os.urandom(256)
-        with open(cookie, "wb") as file:
-            file.write(self.cookie)
         with open(header, "wb") as file:
             subprocess.run([sys.executable, "-B", os.path.join(TOP, "tools", "header.py"), "--cookie", cookie, *sinks], stdout=file, check=True)
         with open(header, "r+b") as file:

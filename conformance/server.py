@@ -1,11 +1,12 @@
 """A server that plays a session: its clients, what they send, what its sinks tell of their streams, and what is sent."""
 
+import infos
 import samples
 import strict
 import wire
 from handlers import CONTROLS, Handlers, eight, usec
 from mixer import Sink
-from packets import COMMANDS, OLDEST, RECORDERS, SAMPLERS, read_packet
+from packets import COMMANDS, NEWEST, OLDEST, RECORDERS, SAMPLERS, read_packet
 from words import NONE
 
 RECORDER_NUMBERS = [COMMANDS[word][0] for word in RECORDERS]
@@ -23,6 +24,7 @@ class Client:
         self.streams = {}
         self.made = 0
         self.properties = {}
+        self.mask = 0  # the facilities whose changes it is told
 
 
 class Server(Handlers):
@@ -35,6 +37,7 @@ class Server(Handlers):
         self.waiting = []  # (input, command, tag, time), in the order in which they were asked
         self.client_count = self.input_count = 0
         self.said = bytearray()
+        self.shown = None  # all infos after the last step, where somebody listens
 
     def send(self, conn, command, tag, fields=b""):
         frame = wire.packet_frame(wire.number(command) + wire.number(tag) + fields)
@@ -92,6 +95,27 @@ class Server(Handlers):
         told += b"".join(wire.number(stream.size * frames) for frames in stream.told)
         self.send(stream.owner, 78, NONE, told + self.latency(new))
 
+    def infos(self):
+        """The info of each sink, input and client, and of the server, by facility and index."""
+        shown = {(0, sink.number): infos.sink_info(NEWEST, sink.number, sink.spec, sink.group) for sink in self.sinks}
+        shown.update({(2, number): self.input_info(number) for number in self.inputs_there()})
+        shown.update({(5, number): infos.client_info(client) for number, client in self.known_clients().items()})
+        return {**shown, (7, NONE): infos.server_info(NEWEST, self.fallback.spec)}
+
+    def announce(self):
+        """After a step, those who listen are told of each info that is new, that differs and that is gone."""
+        listeners = {conn: client.mask for conn, client in self.clients.items() if client.mask and not client.ended}
+        before, after = self.shown, self.infos() if listeners else None
+        self.shown = after
+        if before is None or after is None:
+            return
+        for facility, index in sorted(before.keys() | after.keys()):
+            old, new = before.get((facility, index)), after.get((facility, index))
+            kind = 0 if old is None else 0x20 if new is None else 0x10
+            for conn, mask in listeners.items():
+                if old != new and mask >> facility & 1:
+                    self.send(conn, 66, NONE, wire.number(kind + facility) + wire.number(index))
+
     def answer(self, number, command, tag):
         """The first request of a kind and a tag that waits of an input waits no more."""
         it = next(it for it in self.waiting if it[:3] == (number, command, tag))
@@ -99,6 +123,10 @@ class Server(Handlers):
         return it
 
     def event(self, event):
+        self.play(event)
+        self.announce()
+
+    def play(self, event):
         kind = event[0]
         if kind == 1:
             there = sum(not client.ended for client in self.clients.values())
@@ -128,6 +156,7 @@ class Server(Handlers):
         elif kind == 6:
             for _ in range(event[3]):
                 self.notice(*self.sinks[event[1]].notices.pop(0))
+                self.announce()
 
     def notice(self, number, word, frames):
         stream = self.inputs[number]
@@ -169,6 +198,7 @@ class Server(Handlers):
             del client.bytes[: 20 + head.length]
             client.gone += 20 + head.length
             self.packet(conn, payload) if head.channel == wire.CONTROL else self.data(conn, head, payload)
+            self.announce()
 
     def data(self, conn, head, payload):
         number = self.clients[conn].streams.get(head.channel)
