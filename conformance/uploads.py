@@ -10,7 +10,8 @@ HEADER = "sink out s16le 1 48000 map 0 guard 10 depth 100"
 FIRST = 0x80000000  # the number of a connection's first upload
 NAMES = ("bell", "beep", "horn", "drum")
 SHAPES = ((1, "0"), (1, "0"), (2, "1,2"), (2, "2,1"))
-WORDS = ("upload",) * 6 + ("data",) * 8 + ("finish",) * 10 + ("play",) * 16 + ("kill-input", "move", "volume", "mute", "remove", "delete", "infos") * 2 + ("close",)
+MORE = ("kill-input", "move", "volume", "mute", "remove", "delete", "infos")
+WORDS = ("upload",) * 6 + ("data",) * 8 + ("finish",) * 10 + ("play",) * 16 + MORE * 2 + ("close",)
 
 
 class Samplers:
@@ -60,7 +61,8 @@ class Samplers:
         return [f"finish-upload {conn} stream {upload[0]}"]
 
     def delete(self, conn):
-        return [f"delete-upload {conn} stream {self.there[conn].pop()[0]}", f"delete-upload {conn} stream {FIRST + self.dice.randrange(9)}"][: self.dice.randrange(1, 3)]
+        numbers = [self.there[conn].pop()[0], FIRST + self.dice.randrange(9)]
+        return [f"delete-upload {conn} stream {number}" for number in numbers[: self.dice.randrange(1, 3)]]
 
     def play(self, conn):
         sink = self.dice.choice(("", "sink out", "sink wide", "index 2", "index 1", "index 1 sink out", "sink none", "index 5")[: self.dice.choice((5, 5, 8))])
@@ -123,7 +125,8 @@ def kept(conn, at, name, value, length=2):
 
 def crowded():
     """256 samples and one more, which waits until it has its bytes and another is removed; one that takes the place of its name needs no room."""
-    lines = ["# There are at most 256 samples: one more isn't kept, and its upload stays; in place of another of its name, or of one that is removed, it is.", HEADER]
+    lines = ["# There are at most 256 samples: one more isn't kept, and its upload stays; in place of one of its name, or of one that is removed, it is."]
+    lines += [HEADER]
     lines += ["connect 1", "auth 1 version 13"]
     for at in range(256):
         lines += kept(1, at, f"n{at}", 0x80 + at % 50)
@@ -139,7 +142,7 @@ def crowded():
 
 def largest():
     """64 samples of 1,048,576 bytes, which are 67,108,864 together, and one more byte; an upload is no longer than one of them."""
-    lines = ["# Samples have at most 67,108,864 bytes together, 64 of the longest that there can be. Of the one in whose place one comes the bytes don't count."]
+    lines = ["# Samples have at most 67,108,864 bytes together, 64 of the longest that there can be. Of one whose place is taken the bytes don't count."]
     lines += ["form 2", HEADER, "connect 1", "auth 1 version 13", "upload 1 name n u8 1 48000 map 0 length 1048577"]
     for at in range(64):
         lines += kept(1, at, f"n{at}", 0x80, 1_048_576)

@@ -51,7 +51,8 @@ class Reckoner(unittest.TestCase):
         """After the reply to AUTH: the upload's number and length, a plain reply, the play's input, and two frames of 1000."""
         came = cached.reckoned(make(FRONT + BEEP + PLAY + TURNS + "end\n"))
         sent = lambda packet: bytes.fromhex("0100000001" f"{20 + len(packet) // 2:08x}{len(packet) // 2:08x}" "ffffffff" + 24 * "0" + packet)
-        said = ("4c00000002" "4c00000000" "4c00000012", "4c00000002" "4c00000001" "4c80000000" "4c00000004", "4c00000002" "4c00000002", "4c00000002" "4c00000008" "4c00000000")
+        said = "4c00000002" "4c00000000" "4c00000012", "4c00000002" "4c00000001" "4c80000000" "4c00000004", "4c00000002" "4c00000002"
+        said += ("4c00000002" "4c00000008" "4c00000000",)
         self.assertEqual(came, b"".join(map(sent, said)) + bytes.fromhex("03" "00" "00000002" "e803e803" "00"))
 
     def test_a_play_has_the_bytes_of_its_time(self):
@@ -67,7 +68,8 @@ class Reckoner(unittest.TestCase):
         self.assertEqual(len(finished), 256 + 1 + 1)
         first = next(at for at, line in enumerate(said) if "TOOLARGE" in line)
         self.assertEqual(sum("finish-upload" in line for line in said[:first]), 256)
-        self.assertEqual([line.split(" ", 4)[4] for line in said if "error" in line], ["514 BADSTATE", "515 TOOLARGE", "518 TOOLARGE", "521 NOENTITY", "523 TOOLARGE", "525 NOENTITY"])
+        refused = ["514 BADSTATE", "515 TOOLARGE", "518 TOOLARGE", "521 NOENTITY", "523 TOOLARGE", "525 NOENTITY"]
+        self.assertEqual([line.split(" ", 4)[4] for line in said if "error" in line], refused)
         self.assertEqual([line for line in said if line.startswith("played")], ["played out 2 frames: 4096x2", "played out 100 frames: 0x10 32767x2 0x88"])
 
     def test_the_most_bytes(self):
@@ -92,8 +94,9 @@ class Renumbered(unittest.TestCase):
         for line, more in (
             ("sent 1 reply tag 1 name client 2", "sent 1 reply tag 1 name client 3"),
             ("sent 1 event new client index 9", "sent 1 event new client index 10"),
-            ("sent 1 reply tag 1 input-info input 0 name a module none client 0 index 0", "sent 1 reply tag 1 input-info input 0 name a module none client 1 index 0"),
-            ('sent 1 reply tag 5 client-infos client 0 name "client 4" module none / client 3 name null', f'sent 1 reply tag 5 client-infos {own} / client 1 name "client 4" module none / client 4 name null'),
+            ("sent 1 reply tag 1 input-info input 0 module none client 0 index 0", "sent 1 reply tag 1 input-info input 0 module none client 1 index 0"),
+            ('sent 1 reply tag 5 client-infos client 0 name "client 4" module none / client 3 name null',
+             f'sent 1 reply tag 5 client-infos {own} / client 1 name "client 4" module none / client 4 name null'),
             ("sent 1 reply tag 1 client-info client 0 name null", "sent 1 reply tag 1 client-info client 1 name null"),
             ("sent 1 error tag 2 NOENTITY", "sent 1 error tag 2 NOENTITY"),
         ):

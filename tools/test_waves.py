@@ -62,7 +62,8 @@ class Files(unittest.TestCase):
     def test_masks(self):
         """5.1 is left, right, centre, low, and two behind; the numbers are PulseAudio's positions."""
         self.assertEqual(read_wave(file_of(extended(6, 16, 0x3F), bytes(12))), ((3, 6, 48_000), [1, 2, 3, 7, 5, 6], bytes(12)))
-        for channels, mask, positions in ((1, 0, [0]), (1, 4, [0]), (2, 0, [1, 2]), (2, 3, [1, 2]), (2, 0x600, [10, 11]), (3, 7, [1, 2, 3]), (3, 3, []), (4, 0, [])):
+        found = (1, 0, [0]), (1, 4, [0]), (2, 0, [1, 2]), (2, 3, [1, 2]), (2, 0x600, [10, 11]), (3, 7, [1, 2, 3]), (3, 3, []), (4, 0, [])
+        for channels, mask, positions in found:
             self.assertEqual(positions_of(channels, mask), positions)
 
     def test_what_is_wrong(self):
@@ -72,7 +73,8 @@ class Files(unittest.TestCase):
             (BEEP[:12], "no WAV file: it has no format"),
             (BEEP[:36], "a WAV file without sound"),
             (BEEP[:-1], "it ends in the middle: its part data has 8 bytes, and 7 are there"),
-            (file_of(shape_of(3, 1, 48_000, 32), bytes(4)), "its samples are floats of 32 bits; the server knows whole numbers of 8, 16, 24 and 32 bits, A-law and mu-law"),
+            (file_of(shape_of(3, 1, 48_000, 32), bytes(4)),
+             "its samples are floats of 32 bits; the server knows whole numbers of 8, 16, 24 and 32 bits, A-law and mu-law"),
             (file_of(shape_of(1, 1, 48_000, 64), bytes(8)), "its samples are whole numbers of 64 bits; the server knows"),
             (file_of(shape_of(0x55, 1, 48_000, 0), b""), "its samples are of the kind 85 of 0 bits"),
             (file_of(extended(2, 16, 3, "0300"), bytes(4)), "its samples are floats of 16 bits"),
@@ -94,9 +96,11 @@ class Lines(InARoom):
         said = "upload 1 tag {} name bell s16le 1 48000 map {} length 8 {}\ndata 1 stream {} hex e803e8030100ffff\nfinish-upload 1 tag {} stream {}\n"
         first, second = said.format(1, 0, "", 0x80000000, 2, 0x80000000), said.format(9, 5, "media.name=from", 0x80000001, 10, 0x80000001)
         self.assertEqual(self.made("upload 1 name bell from beep.wav\n"), self.made(first))
-        self.assertEqual(self.made("upload 1 from beep.wav tag 1 name bell\nupload 1 tag 9 map 5 name bell from beep.wav media.name=from\n"), self.made(first + second))
+        lines = "upload 1 from beep.wav tag 1 name bell\nupload 1 tag 9 map 5 name bell from beep.wav media.name=from\n"
+        self.assertEqual(self.made(lines), self.made(first + second))
         self.assertEqual(self.made("upload 1 name from from beep.wav\n"), self.made(first.replace("bell", "from")))
-        self.assertEqual(self.made("upload 1 name from s16le 1 48000 map 0 length 2\n"), make(FRONT + "upload 1 name from s16le 1 48000 map 0 length 2\nend\n"))
+        line = "upload 1 name from s16le 1 48000 map 0 length 2\n"
+        self.assertEqual(self.made(line), self.made(line.replace("from s16le", "\"from\" s16le")))
 
     def test_it_is_shown_in_words(self):
         """Sound for an upload has the format of its line, in both directions."""
@@ -112,11 +116,13 @@ class Lines(InARoom):
         self.path("long.wav", file_of(shape, bytes(1_048_576)))
         self.path("longer.wav", file_of(shape, bytes(1_048_577)))
         session = self.made("upload 1 name bell from long.wav\n")
-        self.assertEqual(session, self.made("upload 1 name bell u8 1 48000 map 0 length 1048576\ndata 1 stream 0x80000000 hex 00x1048576\nfinish-upload 1 stream 0x80000000\n"))
+        lines = "upload 1 name bell u8 1 48000 map 0 length 1048576\ndata 1 stream 0x80000000 hex 00x1048576\nfinish-upload 1 stream 0x80000000\n"
+        self.assertEqual(session, self.made(lines))
         text = FRONT + "upload 1 name bell from long.wav\nend\n"
         for at, line in ((700_000, 4), (len(session) - 2, 4), (len(session) - 1, 5)):
             self.assertEqual(line_at(text, at, self.room)[0], line)
-        self.assertRaisesRegex(Wrong, "^4: longer.wav: a sample has 1 to 1048576 bytes, and its sound 1048577$", self.made, "upload 1 name bell from longer.wav\n")
+        cause = "^4: longer.wav: a sample has 1 to 1048576 bytes, and its sound 1048577$"
+        self.assertRaisesRegex(Wrong, cause, self.made, "upload 1 name bell from longer.wav\n")
 
     def test_what_is_wrong(self):
         self.path("beep.wav", BEEP)
