@@ -1,140 +1,168 @@
 #!/usr/bin/env python3
-"""What a few bytes can cost: sessions in which each event brings little and can make the program move much, each at two sizes.
+"""What a few bytes can cost: sessions in which each event brings little and can make the program move much, each at two sizes, as a table.
 
   bench/costs.py [--program FILE] [--least N] [ROW..]
 
-For each row: the bytes of its session, the processor time and the greatest memory of `replay` at N events and at twice as many, and the
-factors by which both grow. A cost that grows with what the events bring grows by two; one that grows with its square by four. N is what
-a row says where nothing else is. The rows are those of ROWS; all of them where none is named. The best of three runs counts."""
+The rows are the attacks of conformance/attacks.py, all of them where none is named. For each: the bytes of its session, the processor time and
+the greatest memory of `replay` at N and at twice as many, and the factors by which both grow. What is right grows by two, as what the
+events bring does; a cost that grows with the square of it grows by four. N is what COUNTS says where nothing else does. The best of three runs
+counts. Where a plain Rust program of bench/ plays the session too, it is timed on it, and must write the same. It wants rustc for that, and
+GNU time for the memory."""
 
 import os
+import re
+import shutil
+import subprocess
 import sys
 import tempfile
 
-sys.path.insert(0, os.path.join(os.path.dirname(os.path.abspath(__file__)), "..", "tools"))
+TOP = os.path.dirname(os.path.dirname(os.path.realpath(__file__)))
+sys.path[:0] = [os.path.join(TOP, "conformance"), os.path.join(TOP, "tools")]
 sys.dont_write_bytecode = True
 
+import attacks
 import wire
-from maker import heard_frame
-from maker import make
-from recording import ONE, Scene, spelled_bytes, spelled_turn
+from maker import Maker, heard_frame, make
+from packets import COMMANDS
+from recording import spelled_bytes
 from words import Words, words_of
 
-PROGRAM = os.path.join(os.path.dirname(os.path.abspath(__file__)), "..", "crates", "pulse_rw", "out", "pulse_rw")
-MONO = "s16le 1 48000 map 0"
-FIRST = f"""
-sink out {MONO} guard 0 depth 64
-sink left {MONO} guard 0 depth 64
-"""
-CLIENT = """
-connect 1
-auth 1 tag 0 version 13
-"""
-STREAM = f"create 1 tag 1 {MONO} prebuf 0 maxlength 4194304 tlength 4000 minreq 4000\n"
-ABSOLUTE = 1  # the seek mode of an offset from the start of a stream
-
-
-def front(lines):
-    """The session so far, without its end."""
-    return make(FIRST + lines + "end\n")[:-1]
-
-
-def command(line):
-    """The events of a command's line."""
-    conn, frame = heard_frame(line.split()[0], Words(words_of(line.split(" ", 1)[1])), Scene())
-    return b"".join(spelled_bytes(conn, frame[at : at + ONE.piece]) for at in range(0, len(frame), ONE.piece))
-
-
-def moved(count):
-    """Data frames wait while their stream moves to another sink, and follow it there."""
-    data = spelled_bytes(1, wire.frame_of(0, 0, 0, b"\0\1"))
-    # The first Turn takes the new stream and its factors, the second the message that it leaves.
-    return front(CLIENT + STREAM + "turn out 0 take 2\nmove 1 tag 2 input 0 sink left\n") + count * data + spelled_turn(0, 0, 1) + spelled_turn(0, None, 1)
-
-
-def scattered(count):
-    """Frames are written at every second index, the last index first."""
-    writes = (spelled_bytes(1, wire.frame_of(0, 4 * (count - at), ABSOLUTE, b"\0\1")) for at in range(count))
-    return front(CLIENT + STREAM) + b"".join(writes) + spelled_turn(0, 0, 2 + count)
-
-
-def keys(first, past):
-    return [f"key{at:06}" for at in range(first, past)]
-
-
-def with_keys(count):
-    return front(CLIENT) + command("update-client 1 tag 2 mode 2 " + " ".join(f"{key}=a" for key in keys(0, count)))
-
-
-def removed(count):
-    """Half of a client's keys are removed by one command."""
-    return with_keys(2 * count) + command("remove-client 1 tag 3 keys " + " ".join(keys(0, count)))
-
-
-def one_key(count):
-    """One key of a long list is set again and again, once for each thousand keys."""
-    return with_keys(count) + count // 1_000 * command("update-client 1 tag 3 mode 2 key000000=b")
-
-
-def come_and_gone(count):
-    """Streams are made and deleted while their sink makes no turn."""
-    made = ("".join((f"create 1 tag 1 {MONO} prebuf 0 tlength 4000 minreq 4000\n", f"delete 1 tag 2 stream {at}\n")).splitlines() for at in range(count))
-    return front(CLIENT) + b"".join(command(line) for lines in made for line in lines)
-
-
-def connected(count):
-    """Clients connect, most of them past the greatest number of clients at once."""
-    return front("connect 1\n") + b"".join(b"\1" + conn.to_bytes(4, "big") for conn in range(2, count + 2))
-
-
-def drained(count):
-    """Requests wait that are all answered by one turn: that a stream has played all, and how much of it waits."""
-    asked = b"".join(command(line) for at in range(count // 2) for line in (f"drain 1 tag {at + 2} stream 0", f"latency 1 tag {at + 2} stream 0 time 0:0"))
-    return front(CLIENT + STREAM) + asked + spelled_turn(0, 0, 2 + count // 2 * 2) + spelled_turn(0, None, count // 2 * 2)
-
-
-ROWS = {
-    "moved": (moved, 20_000),
-    "scattered": (scattered, 20_000),
-    "removed": (removed, 20_000),
-    "one_key": (one_key, 50_000),
-    "come_and_gone": (come_and_gone, 4_000),
-    "connected": (connected, 25_000),
-    "drained": (drained, 40_000),
+PROGRAM = os.path.join(TOP, "crates", "pulse_rw", "out", "pulse_rw")
+COUNTS = {
+    "moved": 20_000,
+    "back_and_forth": 200,
+    "falling": 10_000,
+    "shuffled": 10_000,
+    "split_up": 5_000,
+    "single_frames": 50_000,
+    "flushed": 10_000,
+    "overflowing": 20_000,
+    "nowhere": 20_000,
+    "one_hash": 5_000,
+    "removed_keys": 20_000,
+    "one_key_of_many": 10_000,
+    "renamed": 10_000,
+    "come_and_gone": 2_000,
+    "connected": 20_000,
+    "visited": 5_000,
+    "declared": 30,
+    "in_pieces": 200_000,
+    "drained": 20_000,
+    "asked": 10_000,
+    "in_vain": 10_000,
+    "requested": 20_000,
+    "listeners": 400,
+    "lists": 400,
+    "sink_volumes": 4_000,
+    "silence": 64,
+    "unchanged": 1_000,
+    "rewound": 1_000,
 }
+DATA = re.compile(r"data (\d+) stream (\d+)(?: as s16le 1 48000)?(?: seek (absolute) offset (\d+))? (\d+)")
+PLAIN = {"single_frames": "lane"}  # the program that plays a session, on one sink in stereo
+CHANNELS = {"single_frames": 2, "silence": 8}  # of the streams that have more than one
+STEREO = "s16le 2 48000 map 1,2"
 
 
-def cost(program, session):
-    """The processor seconds and the greatest memory, in megabytes, of a replay."""
-    with tempfile.TemporaryFile() as file:
+class Swift(Maker):
+    """Makes a session of lines as `make` does it, but at once where a line is plain data, or a command that was made before."""
+
+    def __init__(self, channels):
+        super().__init__()
+        self.channels, self.known = channels, {}
+
+    def swift(self, line):
+        data, word = DATA.fullmatch(line), line.split(" ", 1)[0]
+        if data:
+            sound = int(data[5]).to_bytes(2, "little") * self.channels
+            self.made += spelled_bytes(int(data[1]), wire.frame_of(int(data[2]), int(data[4] or 0), 1 if data[3] else 0, sound))
+        elif word in COMMANDS:
+            self.command(line)
+        else:
+            self.line(Words(words_of(line)))
+
+    def command(self, line):
+        """The frame of a command; only the tag differs where the same line comes again."""
+        if line in self.known:
+            conn, frame = self.known[line]
+            tag = self.scene.tags[conn]
+            frame, self.scene.tags[conn] = frame[:26] + tag.to_bytes(4, "big") + frame[30:], tag + 1
+        else:
+            words = Words(words_of(line))
+            conn, frame = self.known[line] = heard_frame(words.take("a word"), words, self.scene)
+            self.scene.saw(conn, frame)
+        self.cut(conn, frame)
+
+
+def session_of(name, count):
+    """The session of an attack."""
+    if name in ("in_pieces", "declared"):
+        return make(attacks.thrown(name, count))
+    lines = list(attacks.ATTACKS[name](count))
+    if name in PLAIN:
+        lines = [line.replace(attacks.MONO, STEREO) for line in lines if not line.startswith("sink left")]
+    maker = Swift(CHANNELS.get(name, 1))
+    for line in [*lines, "end"]:
+        maker.swift(line)
+    return bytes(maker.made)
+
+
+def run(words, file, output):
+    """The processor seconds of a program with this input, which must end well."""
+    file.seek(0)
+    child = os.fork()
+    if child == 0:
+        os.dup2(file.fileno(), 0)
+        os.dup2(output.fileno(), 1)
+        os.execv(words[0], words)
+    _, status, usage = os.wait4(child, 0)
+    if status:
+        raise SystemExit(f"{words[0]} ended with status {os.waitstatus_to_exitcode(status)}")
+    return usage.ru_utime + usage.ru_stime
+
+
+def memory(words, file):
+    """The greatest memory in megabytes, or None without GNU time. What the system says of a child of this process counts this one's too."""
+    if not os.path.exists("/usr/bin/time"):
+        return None
+    file.seek(0)
+    with tempfile.NamedTemporaryFile() as said:
+        subprocess.run(["/usr/bin/time", "-f", "%M", "-o", said.name, *words], stdin=file, stdout=subprocess.DEVNULL, check=True)
+        return int(said.read()) / 1024
+
+
+def cost(words, session):
+    """The least processor seconds, the greatest memory, and what is written."""
+    with tempfile.TemporaryFile() as file, tempfile.TemporaryFile() as output:
         file.write(session)
-        best, most = None, 0
-        for _ in range(3):
-            file.seek(0)
-            child = os.fork()
-            if child == 0:
-                os.dup2(file.fileno(), 0)
-                os.dup2(os.open(os.devnull, os.O_WRONLY), 1)
-                os.execv(program, [program, "replay"])
-            _, status, usage = os.wait4(child, 0)
-            if status:
-                raise SystemExit(f"the program ended with status {os.waitstatus_to_exitcode(status)}")
-            spent = usage.ru_utime + usage.ru_stime
-            best = spent if best is None else min(best, spent)
-            most = max(most, usage.ru_maxrss / 1024)
-    return best, most
+        file.flush()
+        best = run(words, file, output)
+        output.seek(0)
+        written = output.read()
+        with open(os.devnull, "wb") as nowhere:
+            # what takes long is long enough to count
+            best = min([best] + [run(words, file, nowhere) for _ in range(2 if best < 2 else 0)])
+        return best, memory(words, file), written
 
 
-def shown(program, name, least):
-    make_session, usual = ROWS[name]
-    count = least or usual
-    small, large = make_session(count) + b"\0", make_session(2 * count) + b"\0"
-    (time, memory), (later, more) = cost(program, small), cost(program, large)
-    print(
-        f"{name:14} {count:7} and {2 * count:7} events, {len(small) / 1000:8.0f} and {len(large) / 1000:8.0f} KB: "
-        f"{time:7.3f} and {later:7.3f} seconds (by {later / max(time, 0.001):4.1f}), {memory:7.1f} and {more:7.1f} MB (by {more / memory:4.1f})",
-        flush=True,
-    )
+def pair(unit, small, large):
+    """Two figures and the factor between them."""
+    if small is None:
+        return "| – |"
+    return f"{small:.{unit}f}, {large:.{unit}f} | {large / max(small, 0.001):.1f} |"
+
+
+def shown(program, name, least, plain):
+    count = least or COUNTS[name]
+    small, large = session_of(name, count), session_of(name, 2 * count)
+    (time, size, written), (later, more, last) = cost([program, "replay"], small), cost([program, "replay"], large)
+    said = " – | – |"
+    if plain and name in PLAIN:
+        (own, _, same), (then, _, too) = cost([plain], small), cost([plain], large)
+        if (same, too) != (written, last):
+            raise SystemExit(f"{name}: the two programs disagree")
+        said = " " + pair(3, own, then)
+    print(f"| {name} | {count}, {2 * count} | {len(small) / 1000:.0f}, {len(large) / 1000:.0f} | {pair(3, time, later)} {pair(1, size, more)}{said}", flush=True)
 
 
 def main(words):
@@ -145,11 +173,17 @@ def main(words):
         else:
             least = int(words[1]) if words[1].isdecimal() else 0
         words = words[2:]
-    if least == 0 or any(word not in ROWS for word in words):
-        print(__doc__, "Rows:", ", ".join(ROWS), file=sys.stderr)
+    if least == 0 or any(word not in COUNTS for word in words):
+        print(__doc__, "Rows:", ", ".join(COUNTS), file=sys.stderr)
         return 2
-    for name in words or ROWS:
-        shown(program, name, least)
+    with tempfile.TemporaryDirectory() as folder:
+        plain = os.path.join(folder, "lane") if shutil.which("rustc") else None
+        if plain:
+            built = ["rustc", "--edition", "2021", "-O", "-C", "target-cpu=x86-64-v2", "-o", plain, os.path.join(TOP, "bench", "lane.rs")]
+            subprocess.run(built, check=True)
+        print("| Row | N | KB | Seconds | by | MB | by | Plain Rust, seconds | by |\n|---|--:|--:|--:|--:|--:|--:|--:|--:|", flush=True)
+        for name in words or COUNTS:
+            shown(program, name, least, plain)
     return 0
 
 

@@ -296,7 +296,7 @@ fn main() {
                         let frames = payload.chunks_exact(2).map(|p| i16::from_le_bytes([p[0], p[1]])).collect();
                         sink.messages.push_back(Message::Write { input: inputs_of[place][channel as usize], frames });
                     } else if be(payload, 1) == 8 {
-                        sent(&mut out, conn, &words(&[2, be(payload, 6), 13]));
+                        sent(&mut out, conn, &words(&[2, be(payload, 6), 18]));
                     } else {
                         assert_eq!(be(payload, 1), 3, "a command that isn't played here");
                         let stream = inputs_of[place].len() as u32;

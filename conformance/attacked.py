@@ -82,11 +82,12 @@ class Attack(threading.Thread):
         self.path, self.events, self.clients = path, events, {}
 
     def drop(self, client):
-        try:
-            while client.recv(65_536):
+        with client:
+            try:
+                while client.recv(65_536):
+                    pass
+            except OSError:
                 pass
-        except OSError:
-            pass
 
     def act(self, kind, conn, *data):
         if kind == CONNECT:
@@ -107,7 +108,9 @@ class Attack(threading.Thread):
                 pass
 
     def end(self):
-        self.join()
+        """The clients hang up, once all was sent."""
+        if self.ident is not None:
+            self.join()
         for client in self.clients.values():
             try:
                 client.shutdown(socket.SHUT_RDWR)

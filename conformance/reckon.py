@@ -19,7 +19,7 @@
 
 It keeps each sample that was ever written in a map from index to sample, and mixes each frame anew. It knows volumes and mutes,
 the commands of a stream's life and its moves, names and property lists of clients and streams, the infos of sinks, inputs and
-clients, and only sessions that are played to their end and ask for nothing that is refused but by ACCESS, BADSTATE, VERSION,
+clients, what those who listen are told of these, and only sessions that are played to their end and ask for nothing that is refused but by ACCESS, BADSTATE, VERSION,
 INVALID, NOENTITY, TOOLARGE and BUSY, and a stream that is made or moved by NOTSUPPORTED too, as the commands of record streams are. Of a packet that it can't read it takes
 the last byte to be too much where it can read the others, and else the packet to be too short."""
 import os

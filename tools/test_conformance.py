@@ -131,6 +131,14 @@ class Reckoning(unittest.TestCase):
         left = ["-64", "-64", str(-2 * 32), str(-32)]
         self.assertEqual(played, [f"{value}x2" for value in full + most] + full + most + [f"{value}x3" for value in left])
 
+    def test_attacks_at_both_places(self):
+        """The benchmark makes the sessions of the attacks by a shorter way, and the same of each but the one that it plays in stereo."""
+        costs = runpy.run_path(os.path.join(TOP, "bench", "costs.py"))
+        attacks = costs["attacks"]
+        self.assertEqual(set(costs["COUNTS"]), set(attacks.ATTACKS))
+        for name in set(costs["COUNTS"]) - set(costs["PLAIN"]):
+            self.assertEqual(costs["session_of"](name, 100), costs["make"](attacks.thrown(name, 100)), name)
+
     def test_a_recorded_client(self):
         """The reckoner gives what another implementation gave for a session of PulseAudio's own paplay."""
         said = []

@@ -22,6 +22,8 @@ SAMPLES = re.compile(r"(-?[0-9]{1,12}(?:/-?[0-9]{1,12})*)(?:x([0-9]{1,9}))?")
 
 def words_of(line):
     """The words of a line, without its comment; quotes and escapes stay in them."""
+    if '"' not in line and "#" not in line:
+        return line.split()
     found, at = [], 0
     while True:
         while at < len(line) and line[at].isspace():
