@@ -94,7 +94,7 @@ def tone(frames, pitch):
 
 
 def ours(folder, program, sinks, clients, nowhere, counted):
-    """This server, for so many clients at once and one place more, so that it is there when they have gone."""
+    """This server, for `clients` clients at once and one place more, so that it is there when they have gone."""
     if nowhere:
         for sink in sinks:
             os.symlink(os.devnull, os.path.join(folder, f"{sink}.raw"))

@@ -76,7 +76,7 @@ def write(out, seconds, streams, depth=2 * TURN, queued=2 * TURN, record=False):
     out.write(make(FIRST.format(depth) + clients + "end\n")[:-1])
     data = events_of_data(streams)
     ahead = queued // TURN
-    # The first frames, behind each stream's two messages; each stream then asks for more.
+    # The first frames, after each stream's two messages; each stream then asks for more.
     for turn in range(ahead):
         out.write(data[turn % len(data)])
     out.write(spelled_turn(0, 0, (2 + ahead) * streams) + spelled_turn(0, None, streams))

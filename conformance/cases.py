@@ -33,7 +33,7 @@ def parts_of(session):
 
 
 def cut(session, size):
-    """The session, which is whole, with what each client sends between two other events in pieces of so many bytes."""
+    """The session, which is whole, with what each client sends between two other events in pieces of `size` bytes."""
     read, _, _ = parts_of(session)
     made, held = bytearray(spelled_header(read.cookie, read.sinks, read.form)), None
     size = read.form.piece if size == WHOLE else size

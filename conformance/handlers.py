@@ -170,7 +170,7 @@ class Handlers:
         return self.send(conn, 2, tag)
 
     def set_volume(self, conn, tag, sink, channels, volume, moving, set_it):
-        """A volume, on a sink that is there, of what has so many channels: one for all of them, or one each."""
+        """A volume, on a sink that is there, of what has `channels` channels: one for all of them, or one each."""
         if not volume or max(volume) > 0x7FFFFFFF:
             return self.error(conn, tag, 3)
         if sink is None:

@@ -23,7 +23,7 @@ def updated(mode, old, pairs):
 
 
 def name_in(properties, key):
-    """The text under a key, behind which a zero byte stands, and no other."""
+    """The text under a key, after which a zero byte stands, and no other."""
     value = properties.get(key, b"")
     return value[:-1] if value.endswith(b"\0") and value.count(b"\0") == 1 else None
 

@@ -32,11 +32,11 @@ class Stream:
         return self.hold and self.write - self.read < self.prebuf
 
     def given(self, frames):
-        """How many of so many frames it gives."""
+        """How many of the next `frames` frames it gives."""
         return 0 if self.corked or self.is_short() else min(max(self.edge() - self.read, 0), frames)
 
     def read_after(self, frames):
-        """The read index so many frames on: without prebuffering it goes on where nothing is left."""
+        """The read index `frames` frames on: without prebuffering it goes on where nothing is left."""
         return self.read + (self.given(frames) if self.prebuf or self.corked or self.is_short() else frames)
 
     def end(self):

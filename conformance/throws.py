@@ -230,7 +230,7 @@ def taken(lines, dice, front=(), server_of=Server):
 
 
 def collected(lines, dice):
-    """The events of these lines, with some of the notices collected behind each turn."""
+    """The events of these lines, with some of the notices collected after each turn."""
     cookie, sinks, events, _ = read_session(make("\n".join([*lines, "end", ""])))
     server = Server(cookie, sinks)
     for line, event in zip(lines[len(sinks) :], events):

@@ -39,7 +39,7 @@ class Member:
 
 
 class Group:
-    """The volumes of a sink of so many channels and of its inputs."""
+    """The volumes of a sink, a number for each channel, and of its inputs."""
 
     def __init__(self, channels):
         self.reference, self.muted, self.members = [NORM] * channels, False, {}

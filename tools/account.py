@@ -108,7 +108,7 @@ class Run:
     # what the server said
 
     def head(self, record):
-        """The command and the tag of what was sent, and its items behind them."""
+        """The command and the tag of what was sent, and its items after them."""
         items = wire.Items(record[2][20:])
         try:
             return items.number(), items.number(), items

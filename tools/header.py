@@ -4,7 +4,7 @@
   tools/header.py [--cookie FILE] [--guard FRAMES] [--depth FRAMES] SINK.. > desk.hdr
 
 SINK is NAME[:FORMAT[:CHANNELS[:RATE]]], as `out` or `wide:s32le:6:48000`; s16le, 2 and 48000 where nothing else is said. The
-channels lie as PulseAudio lays so many out. The guard, the frames that no later word changes, is a hundredth of a second at first,
+channels lie as PulseAudio lays as many out. The guard, the frames that no later word changes, is a hundredth of a second at first,
 and the depth, the frames that are mixed ahead, a tenth. The cookie is that of FILE, else the one that the clients of this user send
 by themselves ($PULSE_COOKIE, ~/.config/pulse/cookie or ~/.pulse-cookie); where there is none it is made there, for this user alone. The header has
 it, so the file that the header goes into is made its owner's alone too."""
@@ -31,7 +31,7 @@ COOKIE = 256
 
 
 def positions_of(channels):
-    """Where so many channels lie: by name where there is a layout, else as auxiliary channels."""
+    """Where `channels` channels lie: by name where there is a layout, else as auxiliary channels."""
     return LAYOUTS.get(channels, [12 + channel for channel in range(channels)])
 
 

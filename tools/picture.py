@@ -59,7 +59,7 @@ def columns(count, frames):
 
 
 def step_of(most, parts):
-    """A step of 1, 2 or 5 times a power of ten, by which there are at most so many parts."""
+    """A step of 1, 2 or 5 times a power of ten, by which there are at most `parts` parts."""
     least = most / parts
     power = 10.0 ** floor(log10(least))
     return next(power * times for times in (1, 2, 5, 10, 20) if power * times >= least * (1 - 1e-9))
@@ -229,7 +229,7 @@ class Picture:
         return [*found.items(), (max(self.x(end), x), level)]
 
     def marks(self, marks, top, rows):
-        """Each mark a line, and a letter where there is room in one of so many rows."""
+        """Each mark a line, and a letter where there is room in one of `rows` rows."""
         free, lines = [0.0] * rows, set()
         for time, word, said in marks:
             x, (letter, colour, _) = self.x(time), MARKS[word]

@@ -45,7 +45,7 @@ class Asked:
 
 
 class Records:
-    """An output's records, one behind the other."""
+    """An output's records, one after the other."""
 
     def __init__(self, data, sinks):
         self.place = Place(data)

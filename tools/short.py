@@ -2,7 +2,7 @@
 
 import re
 
-FEW = 8  # sounds of so many words are told whole
+FEW = 8  # a sound of at most as many words is told whole
 LONG = 16  # frames of one value that stand by themselves
 SOUND = re.compile(r"(-?[0-9]+(?:/-?[0-9]+)*)(?:x([0-9]+))?")
 FRAMES = re.compile(r"(played \S+ [0-9]+ frames:)(.*)", re.DOTALL)

@@ -163,7 +163,7 @@ class Lengths(unittest.TestCase):
         self.assertEqual([word for word in texts(lanes(root, "sink")[0]) if word.isdigit()], [str(10 * at) for at in range(1, 11)])
 
     def test_a_minute(self):
-        """6,000 turns of 10 milliseconds, each behind a write of as much."""
+        """6,000 turns of 10 milliseconds, each after a write of as much."""
         text = "sink out u8 1 8000 map 0 guard 0 depth 80\n" + AUTH + "create 1 tag 1 u8 1 8000 map 0 tlength 400 prebuf 0 minreq 2\n"
         text += "data 1 stream 0 9x80\nturn out 0 take 3\n" + 6000 * "data 1 stream 0 9x80\nturn out 80 take 1\n" + "end\n"
         numbers = "".join(f"4c{value:08x}" for value in (0, 0, 400, 4194304, 400, 0, 2))
