@@ -149,12 +149,7 @@ fn cut(parts: &mut Parts, alloc: Global, conn: ConnId) -> Result<Outcome, WorldF
 }
 
 // Bytes of a connection arrive, if its number is in use by a client.
-fn heard(
-    parts: &mut Parts,
-    alloc: Global,
-    conn: ConnId,
-    text: Text,
-) -> Result<Outcome, WorldFault>
+fn heard(parts: &mut Parts, alloc: Global, conn: ConnId, text: Text) -> Result<Outcome, WorldFault>
     ensures done { (s : Sampler) → StandsForSampler parts.old s → Answered result (HasDone parts.new s (Bytes conn text)) (λ fault. sampler_refusal s (Bytes conn text) ≡ Some fault) }
     ensures stays { Answered result (λ _. Unit {0}) (λ _. parts.new ≡ parts.old) }
 {
