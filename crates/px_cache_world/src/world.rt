@@ -88,6 +88,9 @@ fn connected(alloc: Global, header: &Header) -> Mem<World>
 fn open(alloc: Global, effects: Effects) -> Mem<Effects>
     ensures { IfOk result (λ shown. shown ≡ open_effects effects) }
 {
+    if effects.as_slice().is_empty() {
+        return Ok(effects);
+    }
     let shown = shifted(alloc, Shift::Hidden(hidden()), effects)?;
     Ok(shown)
 }
