@@ -68,7 +68,7 @@ impl Stage for Sampling {
             Err(fault) => return Err(fault),
         };
         match write_outcome(pieces, Lens::Records, sink, &outcome) {
-            Ok(()) => Ok(None),
+            Ok(()) => Ok(self.world.used_text()),
             Err(_) => Err(WorldFault::NoMemory),
         }
     }

@@ -28,7 +28,7 @@ use px_scache::{
 use px_session::Event;
 use px_sieve::{Shift, Sieve, shifted};
 use px_state::Effects;
-use px_types::{ConnId, Mem};
+use px_types::{ConnId, Mem, Text};
 use px_world::{Outcome, World, WorldFault};
 use std::alloc::Global;
 use std::marker::Model;
@@ -88,6 +88,9 @@ fn connected(alloc: Global, header: &Header) -> Mem<World>
 fn open(alloc: Global, effects: Effects) -> Mem<Effects>
     ensures { IfOk result (λ shown. shown ≡ open_effects effects) }
 {
+    if effects.as_slice().is_empty() {
+        return Ok(effects);
+    }
     let shown = shifted(alloc, Shift::Hidden(hidden()), effects)?;
     Ok(shown)
 }
@@ -149,19 +152,15 @@ fn cut(parts: &mut Parts, alloc: Global, conn: ConnId) -> Result<Outcome, WorldF
 }
 
 // Bytes of a connection arrive, if its number is in use by a client.
-fn heard(
-    parts: &mut Parts,
-    alloc: Global,
-    conn: ConnId,
-    bytes: &[u8],
-) -> Result<Outcome, WorldFault>
-    ensures done { (s : Sampler) → StandsForSampler parts.old s → Answered result (HasDone parts.new s (Bytes conn bytes.now)) (λ fault. sampler_refusal s (Bytes conn bytes.now) ≡ Some fault) }
+fn heard(parts: &mut Parts, alloc: Global, conn: ConnId, text: Text) -> Result<Outcome, WorldFault>
+    ensures done { (s : Sampler) → StandsForSampler parts.old s → Answered result (HasDone parts.new s (Bytes conn text)) (λ fault. sampler_refusal s (Bytes conn text) ≡ Some fault) }
     ensures stays { Answered result (λ _. Unit {0}) (λ _. parts.new ≡ parts.old) }
 {
     if is_hidden(conn) || !parts.world.is_named(conn) {
         return Err(WorldFault::NotLive);
     }
-    let effects = hear(parts, alloc, conn, bytes)?;
+    let effects = hear(parts, alloc, conn, text.as_slice())?;
+    parts.world.reclaim_text(text);
     Ok(Outcome {
         effects: open(alloc, effects)?,
         played: Played::from_vec(Vec::new(alloc)),
@@ -192,7 +191,7 @@ fn run(parts: &mut Parts, alloc: Global, e: Event) -> Result<Outcome, WorldFault
 {
     match e {
         Event::Connect(conn) => connect(parts, alloc, conn),
-        Event::Bytes(conn, bytes) => heard(parts, alloc, conn, bytes.as_slice()),
+        Event::Bytes(conn, text) => heard(parts, alloc, conn, text),
         Event::Close(conn) => closed(parts, alloc, conn),
         Event::Cut(conn) => cut(parts, alloc, conn),
         Event::Turn { sink, frames, take } => lone(
@@ -250,5 +249,13 @@ impl CacheWorld {
                 Err(fault)
             }
         }
+    }
+
+    /// Takes the text of the last event that had bytes, which are done with, to be filled again: an event of the session, or one on the server's own
+    /// connection. `None` where there was no such event since the last call. Takes no memory.
+    pub fn used_text(&mut self) -> Option<Text>
+        ensures { self.new ≡ self.old }
+    {
+        self.parts.world.used_text()
     }
 }

@@ -39,4 +39,4 @@ returns-clause-played c = λ look header events held stage.
 pub returns-in-Ok-write_outcome-clause-stands : goal.returns-in-Ok-write_outcome-clause-stands
 returns-in-Ok-write_outcome-clause-stands c = λ look header events stage.
     let m = state_after sample_course header events in
-    stands_on (record { world = c.event.new.self }) look header events c.args.e (c.in-Ok.ensures.after m stage.stands)
+    stands_on (record { world = c.used_text.new.self }) look header events c.args.e (rw c.used_text.ensures (c.in-Ok.ensures.after m stage.stands))
