@@ -73,7 +73,9 @@ def by_pamixer(program, folder):
         client.enter(served.cookie)
         volume = sink_volume(client, 0)
     told = [(it.returncode, it.stdout) for it in said]
-    return agree(told[:2], [(0, ""), (0, "50\n")]) and told[2][0] == 0 and '"out"' in told[2][1] and volume == [32_768] * 2 and served.ended() == (0, "")
+    # a sink's index, its name, its state, of which 0 is that it runs, and its description
+    wanted = [(0, ""), (0, "50\n"), (0, 'Sinks:\n0 "out" "Running" "out"\n')]
+    return agree((told, volume), (wanted, [32_768] * 2)) and served.ended() == (0, "")
 
 
 def ffplay(served, sound):

@@ -37,10 +37,12 @@ impl Store {
         segment
     }
 
+    #[inline]
     pub fn hold(&mut self, segment: u32) {
         self.holds[segment as usize] += 1;
     }
 
+    #[inline]
     pub fn release(&mut self, segment: u32) {
         let holds = &mut self.holds[segment as usize];
         *holds -= 1;
@@ -55,6 +57,7 @@ impl Store {
     }
 
     /// Copies `length` bytes from one segment to another.
+    #[inline]
     pub fn copy(&mut self, from: Place, to: Place, length: usize) {
         let [from_segment, to_segment] =
             self.segments.get_disjoint_mut([from.segment as usize, to.segment as usize]).expect("two segments");
@@ -79,9 +82,9 @@ impl Input {
     }
 
     /// The next `count` bytes, whole in one segment.
-    #[inline]
+    #[inline(always)]
     pub fn next(&mut self, count: usize) -> &[u8] {
-        while self.filled - self.at < count {
+        if self.filled - self.at < count {
             self.read_more(count);
         }
         &self.store.segments[self.segment as usize][self.at..self.at + count]
@@ -114,6 +117,7 @@ impl Input {
         word
     }
 
+    #[cold]
     fn read_more(&mut self, count: usize) {
         assert!(count <= LARGE, "an event of {count} bytes isn't played here");
         if self.at + count > LARGE || LARGE - self.filled < ROOM {
@@ -122,9 +126,11 @@ impl Input {
             self.store.release(self.segment);
             (self.segment, self.filled, self.at) = (next, self.filled - self.at, 0);
         }
-        let read = self.file.read(&mut self.store.segments[self.segment as usize][self.filled..]).expect("read");
-        assert!(read > 0, "truncated");
-        self.filled += read;
+        while self.filled - self.at < count {
+            let read = self.file.read(&mut self.store.segments[self.segment as usize][self.filled..]).expect("read");
+            assert!(read > 0, "truncated");
+            self.filled += read;
+        }
     }
 }
 

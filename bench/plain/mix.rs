@@ -8,8 +8,8 @@ const GROUP: usize = 8;
 
 macro_rules! mixer {
     ($name:ident, $sample:ty, $sum:ty, $size:literal) => {
-        /// Mixes streams, each of as many bytes as `out` has, into it: their sums, clipped.
-        pub fn $name(streams: &[&[u8]], out: &mut [u8]) {
+        /// Mixes streams, each of as many bytes as `out` has, into it: their sums, clipped. `sums` is room for them.
+        pub fn $name(streams: &[&[u8]], sums: &mut Vec<$sum>, out: &mut [u8]) {
             /// Adds samples of `STREAMS` streams from byte `from` on to the sums; the first pass sets these, the last clips them into `out`.
             fn pass<const STREAMS: usize>(sums: &mut [$sum], streams: &[&[u8]], from: usize, is_first: bool, out: Option<&mut [u8]>) {
                 let count = sums.len();
@@ -28,7 +28,7 @@ macro_rules! mixer {
             const PASSES: [fn(&mut [$sum], &[&[u8]], usize, bool, Option<&mut [u8]>); GROUP] =
                 [pass::<1>, pass::<2>, pass::<3>, pass::<4>, pass::<5>, pass::<6>, pass::<7>, pass::<8>];
 
-            let mut sums = [0; BLOCK];
+            sums.resize(BLOCK, 0);
             for (block, out) in out.chunks_mut(BLOCK * $size).enumerate() {
                 let sums = &mut sums[..out.len() / $size];
                 for (group, members) in streams.chunks(GROUP).enumerate() {

@@ -58,6 +58,8 @@ pub struct Sink {
     gone: usize,
     sources: Vec<Source>,
     laid: Vec<u8>,
+    sums_16: Vec<i32>,
+    sums_32: Vec<i64>,
 }
 
 impl Sink {
@@ -79,6 +81,8 @@ impl Sink {
             gone: 0,
             sources: Vec::new(),
             laid: Vec::new(),
+            sums_16: Vec::new(),
+            sums_32: Vec::new(),
         }
     }
 
@@ -153,8 +157,8 @@ impl Sink {
         let start = self.mixed.len();
         self.mixed.resize(start + length, 0);
         match self.spec.format {
-            3 => mix_16(&sounds, &mut self.mixed[start..]),
-            _ => mix_32(&sounds, &mut self.mixed[start..]),
+            3 => mix_16(&sounds, &mut self.sums_16, &mut self.mixed[start..]),
+            _ => mix_32(&sounds, &mut self.sums_32, &mut self.mixed[start..]),
         }
     }
 

@@ -1,5 +1,5 @@
 //! The server of a session: its connections, streams and sinks, and what its commands and notices do.
-use crate::input::{Input, Place, word_at};
+use crate::input::{Input, word_at};
 use crate::packet::{Fields, put_duration, put_number, put_text, record, record_numbers};
 use crate::sink::{Message, Notice, Sink, Spec};
 use crate::stream::{Lengths, Stream};
@@ -66,9 +66,11 @@ impl World {
     fn write(&mut self, connection: u32, channel: u32, input: &mut Input, after: usize, length: usize) {
         let number = self.connections[connection as usize][channel as usize];
         let stream = &mut self.streams[number as usize];
-        assert_eq!(length % stream.frame, 0, "a write that isn't played here");
-        let place: Place = stream.keep(input.place(after), length, &mut input.store);
-        let message = Message::Write { input: number, place, frames: (length / stream.frame) as u32 };
+        // a division of 32 bits takes half as long as one of 64
+        let (frames, left) = (length as u32 / stream.frame as u32, length as u32 % stream.frame as u32);
+        assert_eq!(left, 0, "a write that isn't played here");
+        let place = stream.keep(input.place(after), length, &mut input.store);
+        let message = Message::Write { input: number, place, frames };
         match stream.moving {
             Some(_) => stream.delayed.push(message),
             None => self.sinks[stream.sink].messages.push_back(message),
