@@ -59,7 +59,7 @@ COUNTS = {
     "rewound": 1_000,
 }
 DATA = re.compile(r"data (\d+) stream (\d+)(?: as s16le 1 48000)?(?: seek (absolute) offset (\d+))? (\d+)")
-PLAIN = {"single_frames": "lane"}  # the program that plays a session, on one sink in stereo
+PLAIN = {"single_frames": "plain"}  # the program that plays a session, on one sink in stereo
 CHANNELS = {"single_frames": 2, "silence": 8}  # of the streams that have more than one
 STEREO = "s16le 2 48000 map 1,2"
 
@@ -177,9 +177,9 @@ def main(words):
         print(__doc__, "Rows:", ", ".join(COUNTS), file=sys.stderr)
         return 2
     with tempfile.TemporaryDirectory() as folder:
-        plain = os.path.join(folder, "lane") if shutil.which("rustc") else None
+        plain = os.path.join(folder, "plain") if shutil.which("rustc") else None
         if plain:
-            built = ["rustc", "--edition", "2021", "-O", "-C", "target-cpu=x86-64-v2", "-o", plain, os.path.join(TOP, "bench", "lane.rs")]
+            built = ["rustc", "--edition", "2021", "-O", "-C", "target-cpu=x86-64-v2", "-o", plain, os.path.join(TOP, "bench", "plain", "main.rs")]
             subprocess.run(built, check=True)
         print("| Row | N | KB | Seconds | by | MB | by | Plain Rust, seconds | by |\n|---|--:|--:|--:|--:|--:|--:|--:|--:|", flush=True)
         for name in words or COUNTS:
