@@ -73,7 +73,7 @@ fn header(alloc: Global, reader: &mut Reader) -> Mem<Header>
 fn new_core(alloc: Global) -> Mem<Core<Stub>> {
     let mut reader = Reader::new(alloc)?;
     let header = header(alloc, &mut reader)?;
-    Core::new(alloc, &header)
+    Core::new(alloc, &header, None)
 }
 
 // The number of effects of a control packet; one that comes back, as memory is short, is handled again as if for the first time.
