@@ -41,6 +41,12 @@ plain_side (Err why) found words said same (inr (inl none)) plain =
     absurd (none_some said.options.memory (history_of (first_of (codes "history") (rows words)))
     (ap (λ rs. history_of (first_of (codes "history") rs)) (sym same) ∙ none) (plain_read words said plain).history)
 
+-- a text of the option that names no source
+pub unknown_source : (found : List Row) (text : Option (List ℕ)) (why : WordsFault) → text ≡ first_of (codes "source") found
+    → (why ≡ fault.NoMemory) ⊎ (source_of text ≡ None) → (why ≡ fault.NoMemory) ⊎ IsUnknown found
+unknown_source found text why same (inl memory) = inl memory
+unknown_source found text why same (inr none) = inr (inr (ap source_of (sym same) ∙ none))
+
 -- a kind other than want of memory is one of the faults
 pub has_fault : (kind : ErrorKind) (kinds : Kinds) → (kind ≡ OutOfMemory) ⊎ IsAmong kind kinds → kind ≢ OutOfMemory → kinds ≢ []
 has_fault kind kinds (inl memory) other none = other memory

@@ -125,16 +125,8 @@ where
     };
     match header_in(alloc, bytes) {
         Ok(header) => {
-            let status = serve_header(
-                rt,
-                alloc,
-                &header,
-                said.source.as_ref(),
-                said.tape,
-                output,
-                host,
-                gate,
-            );
+            let source = said.source.as_ref();
+            let status = serve_header(rt, alloc, &header, source, said.tape, output, host, gate);
             ServeEnd::Ended(status)
         }
         Err(ReadError::Refused { at, cause }) => ServeEnd::Refused { at, cause },
