@@ -75,11 +75,7 @@ fn text_of(alloc: Global, source: Option<&SourceName>) -> Mem<Option<Text>>
 }
 
 /// The server's info, where `source` is the name of the default source, if it tells one, and `sink` the default sink.
-pub fn server_of(
-    alloc: Global,
-    source: Option<&SourceName>,
-    sink: &Target,
-) -> Mem<ServerInfo>
+pub fn server_of(alloc: Global, source: Option<&SourceName>, sink: &Target) -> Mem<ServerInfo>
     requires { IsTarget sink.now }
     ensures value { IfOk result (λ info. info ≡ server_of (option_map (λ name. name.now) source.entry) sink.now) }
     ensures writable { IfOk result (λ info. IsTrue (is_text info.name) × (info.spec.channels ≤ 32) × IsText info.source) }
