@@ -11,8 +11,8 @@ _pulse_rw() {
     serve:--header | serve:--socket) mapfile -t COMPREPLY < <(compgen -f -- "$word") ;;
     serve:--out) mapfile -t COMPREPLY < <(compgen -d -- "$word") ;;
     serve:--history) mapfile -t COMPREPLY < <(compgen -W "none memory" -- "$word") ;;
-    serve:--accept) ;;
-    serve:*) mapfile -t COMPREPLY < <(compgen -W "--header --socket --out --accept --history --tape" -- "$word") ;;
+    serve:--accept | serve:--source) ;;
+    serve:*) mapfile -t COMPREPLY < <(compgen -W "--header --socket --out --accept --history --source --tape" -- "$word") ;;
     ctl:ctl) mapfile -t COMPREPLY < <(compgen -W "--socket" -- "$word") ;;
     ctl:--socket) mapfile -t COMPREPLY < <(compgen -f -- "$word") ;;
     ctl:*)

@@ -82,7 +82,7 @@ fn header(alloc: Global, reader: &mut Reader) -> Mem<Header>
 pub(crate) fn new_core(alloc: Global) -> Mem<Core<Stub>> {
     let mut reader = Reader::new(alloc)?;
     let header = header(alloc, &mut reader)?;
-    Core::new(alloc, &header)
+    Core::new(alloc, &header, None)
 }
 
 /// A client sends a control packet.

@@ -2,7 +2,7 @@
 use Rattle.std.proofs.Common.{◌≡◌, ◌∙◌, ◌≤◌, ◌&&◌, ℕ, Bool, cond, true, false, zero, suc, refl, sym, ap, subst, arith, List, [], ◌∷◌, ◌++◌, take, map, Option, Some, None, append-nil, append_assoc, codes, option_map, true≢false}
 use Rattle.std.specs.List.{All, find, flat_map, fold, list_all}
 use Rattle.std.specs.Option.{option_map_or, option_and_then}
-use Rattle.std.specs.Prelude.{slice_get, unwrap_or}
+use Rattle.std.specs.Prelude.{IsTrue, slice_get, unwrap_or}
 use Rattle.std.specs.Str.{bytes_eq}
 use Rattle.clap.specs.Facts.{explicit_source}
 use Rattle.clap.specs.Simple.{built, filled, with_index}
@@ -14,8 +14,9 @@ use Rattle.clap.proofs.WalkLemmas.{both}
 use Rattle.clap.specs.Values.{read_as}
 use Rattle.clap.specs.declared.builder.value_parser.Reading.TheVariants.{AsWritten}
 use Rattle.clap.specs.declared.parser.matches.ValueSource.TheVariants.{DefaultValue}
-use Rattle.px_app.specs.ServeCommand.{serve_command, Reads, history_of, is_set, number, rows, tape_rule}
-use Rattle.px_app.specs.ServePlain.{Plain, Setting, Header, Socket, Out, Accept, History, Tape, IsPlain, Says, option_of, spelling, times}
+use Rattle.px_names.specs.Source.{is_source_name}
+use Rattle.px_app.specs.ServeCommand.{serve_command, Reads, history_of, is_set, number, rows, source_of, tape_rule}
+use Rattle.px_app.specs.ServePlain.{Plain, Setting, Header, Socket, Out, Accept, History, Tape, Source, IsPlain, Says, option_of, spelling, times}
 use Rattle.px_app.specs.declared.serve_words.words.ServeWords.{ServeWords}
 use Rattle.px_app.proofs.ServeRows.{at_end, found, how_of, missing, not_before, row, value_of}
 use Rattle.px_app.proofs.Links.{links_read}
@@ -32,6 +33,7 @@ once words said p (Out path) = omega (arith, p.out)
 once words said p (Accept links) = omega (arith, p.accept)
 once words said p (History memory) = p.history
 once words said p Tape = p.tape
+once words said p (Source name) = p.source
 
 -- where the walk stands behind all settings
 pub record Ends (h : Held) (done rest : List Setting) : Type 0 where
@@ -95,6 +97,10 @@ tape_default rows = go (has_row (codes "tape") rows) refl
 
 -- ---- what is found
 
+-- a name of a source is read as it is
+is_named : (name : List ℕ) → IsTrue (is_source_name name) → source_of (Some name) ≡ Some (Some name)
+is_named name is = rw is refl
+
 module _ (said : ServeWords) where
   header_says : (s : Setting) → Says said s → bytes_eq (option_of s) (codes "header") ≡ true → value_of s ≡ said.options.header
   header_says (Header path) says e = sym says
@@ -103,6 +109,7 @@ module _ (said : ServeWords) where
   header_says (Accept links) says e = absurd (true≢false (sym e))
   header_says (History memory) says e = absurd (true≢false (sym e))
   header_says Tape says e = absurd (true≢false (sym e))
+  header_says (Source name) says e = absurd (true≢false (sym e))
 
   socket_says : (s : Setting) → Says said s → bytes_eq (option_of s) (codes "socket") ≡ true → value_of s ≡ said.options.socket
   socket_says (Socket path) says e = sym says
@@ -111,6 +118,7 @@ module _ (said : ServeWords) where
   socket_says (Accept links) says e = absurd (true≢false (sym e))
   socket_says (History memory) says e = absurd (true≢false (sym e))
   socket_says Tape says e = absurd (true≢false (sym e))
+  socket_says (Source name) says e = absurd (true≢false (sym e))
 
   out_says : (s : Setting) → Says said s → bytes_eq (option_of s) (codes "out") ≡ true → value_of s ≡ said.options.out
   out_says (Out path) says e = sym says
@@ -119,6 +127,7 @@ module _ (said : ServeWords) where
   out_says (Accept links) says e = absurd (true≢false (sym e))
   out_says (History memory) says e = absurd (true≢false (sym e))
   out_says Tape says e = absurd (true≢false (sym e))
+  out_says (Source name) says e = absurd (true≢false (sym e))
 
   accept_says : (s : Setting) → IsPlain s → Says said s → bytes_eq (option_of s) (codes "accept") ≡ true
       → number (read_as (how_of s) (value_of s)) ≡ said.options.accept
@@ -128,6 +137,7 @@ module _ (said : ServeWords) where
   accept_says (Out path) plain says e = absurd (true≢false (sym e))
   accept_says (History memory) plain says e = absurd (true≢false (sym e))
   accept_says Tape plain says e = absurd (true≢false (sym e))
+  accept_says (Source name) plain says e = absurd (true≢false (sym e))
 
   history_says : (s : Setting) → Says said s → bytes_eq (option_of s) (codes "history") ≡ true → history_of (Some (value_of s)) ≡ Some said.options.memory
   history_says (History true) says e = ap Some (sym says)
@@ -137,6 +147,7 @@ module _ (said : ServeWords) where
   history_says (Out path) says e = absurd (true≢false (sym e))
   history_says (Accept links) says e = absurd (true≢false (sym e))
   history_says Tape says e = absurd (true≢false (sym e))
+  history_says (Source name) says e = absurd (true≢false (sym e))
 
   tape_says : (s : Setting) → Says said s → bytes_eq (option_of s) (codes "tape") ≡ true → said.tape ≡ bytes_eq (value_of s) (codes "true")
   tape_says Tape says e = says
@@ -145,6 +156,16 @@ module _ (said : ServeWords) where
   tape_says (Out path) says e = absurd (true≢false (sym e))
   tape_says (Accept links) says e = absurd (true≢false (sym e))
   tape_says (History memory) says e = absurd (true≢false (sym e))
+  tape_says (Source name) says e = absurd (true≢false (sym e))
+
+  source_says : (s : Setting) → IsPlain s → Says said s → bytes_eq (option_of s) (codes "source") ≡ true → source_of (Some (value_of s)) ≡ Some said.source
+  source_says (Source name) plain says e = is_named name plain.1 ∙ ap Some (sym says)
+  source_says (Header path) plain says e = absurd (true≢false (sym e))
+  source_says (Socket path) plain says e = absurd (true≢false (sym e))
+  source_says (Out path) plain says e = absurd (true≢false (sym e))
+  source_says (Accept links) plain says e = absurd (true≢false (sym e))
+  source_says (History memory) plain says e = absurd (true≢false (sym e))
+  source_says Tape plain says e = absurd (true≢false (sym e))
 
 abbrev first_text : Option Row → Option Text
 first_text o = option_and_then (λ (r : Row). slice_get r.values 0) o
@@ -161,7 +182,7 @@ module _ (words : List (List ℕ)) (said : ServeWords) (p : Plain words said) wh
 
   finished_is : finished rules the_end.after ≡ left
   finished_is = ap (λ rs. fold with_default rs rules) the_end.holds.rows
-      ∙ defaults_added (take 5 rules) tape_built (map row p.settings) refl ∙ tape_default (map row p.settings)
+      ∙ defaults_added (take 6 rules) tape_built (map row p.settings) refl ∙ tape_default (map row p.settings)
 
   abbrev Knows : Setting → Type 0
   Knows s = IsPlain s × Says said s
@@ -235,6 +256,16 @@ module _ (words : List (List ℕ)) (said : ServeWords) (p : Plain words said) wh
           let f = stood (codes "tape") (omega (arith, some)) in
           tape_says said f.0 f.1.1 f.2 ∙ sym (ap is_set (is_first (codes "tape") f))
 
+  source : source_of (first_of (codes "source") left) ≡ Some said.source
+  source = go (times (codes "source") p.settings) refl with_tape refl
+    where
+      go : (n : ℕ) → times (codes "source") p.settings ≡ n → (b : Bool) → with_tape ≡ b → source_of (first_of (codes "source") left) ≡ Some said.source
+      go zero none true e = ap source_of (gap (codes "source") none ∙ ap (λ t. first_text (find (λ r. bytes_eq r.id (codes "source")) (tail_of t))) e) ∙ ap Some (sym (p.no_source none))
+      go zero none false e = ap source_of (gap (codes "source") none ∙ ap (λ t. first_text (find (λ r. bytes_eq r.id (codes "source")) (tail_of t))) e) ∙ ap Some (sym (p.no_source none))
+      go (suc n) some b e =
+          let f = stood (codes "source") (omega (arith, some)) in
+          ap source_of (is_first (codes "source") f) ∙ source_says said f.0 f.1.0 f.1.1 f.2
+
   reads_left : Reads left said
   reads_left = record {
     header = is_first (codes "header") header ∙ ap Some (header_says said header.0 header.1.1 header.2);
@@ -243,6 +274,7 @@ module _ (words : List (List ℕ)) (said : ServeWords) (p : Plain words said) wh
     accept = ap (λ o. option_map number (option_and_then row_text o)) accept.3 ∙ ap Some (accept_says said accept.0 accept.1.0 accept.1.1 accept.2);
     history = history;
     tape = tape;
+    source = source;
   }
 
   -- and its matches say what they say
@@ -258,4 +290,5 @@ same_said found a b p q =
     let accept = some_same (sym p.accept ∙ q.accept) in
     let memory = some_same (sym p.history ∙ q.history) in
     let tape = p.tape ∙ sym q.tape in
-    λ i. record { options = record { header = header i; socket = socket i; out = out i; accept = accept i; memory = memory i }; tape = tape i }
+    let source = some_same (sym p.source ∙ q.source) in
+    λ i. record { options = record { header = header i; socket = socket i; out = out i; accept = accept i; memory = memory i }; tape = tape i; source = source i }

@@ -119,14 +119,14 @@ module _ (c : Command) (is : app_of c ≡ serve_command) where
   negates : (out-Command c).subcommand_negates_reqs ≡ false
   negates = ap (λ (s : Shape). s.subcommand_negates_reqs) shape
 
-  six : length (args_of c) ≡ 6
-  six = sym (same_length (args_of c)) ∙ ap length rules_are
+  seven : length (args_of c) ≡ 7
+  seven = sym (same_length (args_of c)) ∙ ap length rules_are
 
-  at_place : (k : ℕ) (d : Arg) → k < 6 → rule_of (slice_index_or (args_of c) k d) ≡ slice_index_or the_rules k (rule_of d)
-  at_place k d lt = rule_at (args_of c) k d (omega (arith, six)) ∙ ap (λ rs. slice_index_or rs k (rule_of d)) rules_are
+  at_place : (k : ℕ) (d : Arg) → k < 7 → rule_of (slice_index_or (args_of c) k d) ≡ slice_index_or the_rules k (rule_of d)
+  at_place k d lt = rule_at (args_of c) k d (omega (arith, seven)) ∙ ap (λ rs. slice_index_or rs k (rule_of d)) rules_are
 
   -- what holds of the argument at a place, by its rule
-  module _ (m : ArgMatches) (p : IsParsedFrom c m) (k : ℕ) (d : Arg) (id : Text) (lt : k < 6) (named : (slice_index_or the_rules k (rule_of d)).id ≡ id)
+  module _ (m : ArgMatches) (p : IsParsedFrom c m) (k : ℕ) (d : Arg) (id : Text) (lt : k < 7) (named : (slice_index_or the_rules k (rule_of d)).id ≡ id)
       (required : (slice_index_or the_rules k (rule_of d)).required ≡ true) (set : (slice_index_or the_rules k (rule_of d)).action ≡ Some Set)
       (range : (slice_index_or the_rules k (rule_of d)).range ≡ None) (before : none_named id (take k the_rules) ≡ true) (behind : none_named id (drop (suc k) the_rules) ≡ true)
       (same : bytes_eq id id ≡ true) (some : bytes_eq id [] ≡ false) (no_help : bytes_eq id (codes "help") ≡ false) (no_version : bytes_eq id (codes "version") ≡ false) where
@@ -137,7 +137,7 @@ module _ (c : Command) (is : app_of c ≡ serve_command) where
     place = at_place k d lt
 
     inside : k < length (args_of c)
-    inside = omega (arith, six)
+    inside = omega (arith, seven)
 
     is_id : (slice_index_or (args_of c) k d).id.now ≡ id
     is_id = ap (λ (r : Rule). r.id) place ∙ named
@@ -153,7 +153,7 @@ module _ (c : Command) (is : app_of c ≡ serve_command) where
 
     unique : (j : ℕ) (e : Arg) → j < length (args_of c) → bytes_eq (slice_index_or (args_of c) j e).id.now (slice_index_or (args_of c) k d).id.now ≡ true → j ≡ k
     unique j e low h =
-        let under : j < 6 = omega (arith, six) in
+        let under : j < 7 = omega (arith, seven) in
         alone id the_rules k (rule_of e) j before behind under
         (sym (ap (λ (r : Rule). bytes_eq r.id id) (at_place j e under)) ∙ sym (ap (bytes_eq (slice_index_or (args_of c) j e).id.now) is_id) ∙ h)
 
@@ -198,4 +198,4 @@ module _ (c : Command) (is : app_of c ≡ serve_command) where
   one_arg (x ∷ xs) lt = x
 
   pub has_options : (m : ArgMatches) → IsParsedFrom c m → HasOptions (rows_of (found_of m))
-  has_options m p = all_there m p (one_arg (args_of c) (omega (arith, six)))
+  has_options m p = all_there m p (one_arg (args_of c) (omega (arith, seven)))

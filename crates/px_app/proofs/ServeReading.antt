@@ -5,7 +5,7 @@ use Rattle.clap.specs.Kinds.{IsAmong, Kinds}
 use Rattle.clap.specs.Walk.{Row, first_of}
 use Rattle.clap.specs.declared.error.kind.ErrorKind.{ErrorKind}
 use Rattle.clap.specs.declared.error.kind.ErrorKind.TheVariants.{OutOfMemory}
-use Rattle.px_app.specs.ServeCommand.{HasOptions, Reads, history_of, number, rows}
+use Rattle.px_app.specs.ServeCommand.{HasOptions, IsUnknown, Reads, history_of, source_of, number, rows}
 use Rattle.px_app.specs.ServePlain.{Plain}
 use Rattle.px_app.specs.declared.serve_words.words.ServeWords.{ServeWords}
 use Rattle.px_app.specs.declared.serve_words.words.WordsFault.{WordsFault}
@@ -14,7 +14,7 @@ use Rattle.px_app.proofs.Plainly.{plain_read, same_said, some_same}
 
 -- what the options call answers
 abbrev pub Answers : List Row → Result ServeWords WordsFault → Type 0
-Answers found r = MatchResult r (Reads found) (λ why. (why ≡ fault.NoMemory) ⊎ (history_of (first_of (codes "history") found) ≡ None))
+Answers found r = MatchResult r (Reads found) (λ why. (why ≡ fault.NoMemory) ⊎ IsUnknown found)
 
 positive : (found : List Row) (read : ServeWords) → HasOptions found → Reads found read → 1 ≤ read.options.accept
 positive found read has reads =
@@ -34,9 +34,18 @@ pub plain_side : (r : Result ServeWords WordsFault) (found : List Row) (words : 
 plain_side (Ok read) found words said same answers plain =
     same_said (rows words) read said (subst (λ rs. Reads rs read) same answers) (plain_read words said plain)
 plain_side (Err why) found words said same (inl memory) plain = memory
-plain_side (Err why) found words said same (inr none) plain =
+plain_side (Err why) found words said same (inr (inr none)) plain =
+    absurd (none_some said.source (source_of (first_of (codes "source") (rows words)))
+    (ap (λ rs. source_of (first_of (codes "source") rs)) (sym same) ∙ none) (plain_read words said plain).source)
+plain_side (Err why) found words said same (inr (inl none)) plain =
     absurd (none_some said.options.memory (history_of (first_of (codes "history") (rows words)))
     (ap (λ rs. history_of (first_of (codes "history") rs)) (sym same) ∙ none) (plain_read words said plain).history)
+
+-- a text of the option that names no source
+pub unknown_source : (found : List Row) (text : Option (List ℕ)) (why : WordsFault) → text ≡ first_of (codes "source") found
+    → (why ≡ fault.NoMemory) ⊎ (source_of text ≡ None) → (why ≡ fault.NoMemory) ⊎ IsUnknown found
+unknown_source found text why same (inl memory) = inl memory
+unknown_source found text why same (inr none) = inr (inr (ap source_of (sym same) ∙ none))
 
 -- a kind other than want of memory is one of the faults
 pub has_fault : (kind : ErrorKind) (kinds : Kinds) → (kind ≡ OutOfMemory) ⊎ IsAmong kind kinds → kind ≢ OutOfMemory → kinds ≢ []

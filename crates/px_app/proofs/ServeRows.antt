@@ -8,7 +8,7 @@ use Rattle.clap.specs.declared.builder.value_parser.Reading.{Reading}
 use Rattle.clap.specs.declared.builder.value_parser.Reading.TheVariants.{AsWritten, WithoutMinus}
 use Rattle.clap.specs.declared.parser.matches.ValueSource.{ValueSource}
 use Rattle.clap.specs.declared.parser.matches.ValueSource.TheVariants.{CommandLine}
-use Rattle.px_app.specs.ServePlain.{Setting, Header, Socket, Out, Accept, History, Tape, history_word, option_of, times}
+use Rattle.px_app.specs.ServePlain.{Setting, Header, Socket, Out, Accept, History, Tape, Source, history_word, option_of, times}
 
 abbrev pub value_of : Setting → List ℕ
 value_of (Header path) = path
@@ -17,6 +17,7 @@ value_of (Out path) = path
 value_of (Accept links) = decimal links
 value_of (History memory) = history_word memory
 value_of Tape = codes "true"
+value_of (Source name) = name
 
 abbrev pub how_of : Setting → Reading
 how_of (Accept links) = WithoutMinus
@@ -56,6 +57,7 @@ own_name (Out path) = refl
 own_name (Accept links) = refl
 own_name (History memory) = refl
 own_name Tape = refl
+own_name (Source name) = refl
 
 stands : (s : Setting) (before after : List Setting) → 1 ≤ times (option_of s) (before ++ s ∷ after)
 stands s [] after = rw (own_name s) (omega arith)

@@ -13,7 +13,7 @@ use Rattle.clap.specs.Walk.{Held, Row, Rule, Step, Text, Walk, after_step, has_r
 use Rattle.clap.specs.declared.builder.value_parser.Reading.TheVariants.{AsWritten}
 use Rattle.clap.specs.declared.parser.matches.ValueSource.TheVariants.{CommandLine}
 use Rattle.px_app.specs.ServeCommand.{serve_command}
-use Rattle.px_app.specs.ServePlain.{Setting, Header, Socket, Out, Accept, History, Tape, IsPlain, IsValue, history_word, option_of, spelling}
+use Rattle.px_app.specs.ServePlain.{Setting, Header, Socket, Out, Accept, History, Tape, Source, IsPlain, IsValue, history_word, option_of, spelling}
 use Rattle.px_app.proofs.ServeRows.{row, value_of, how_of, used_once}
 use Rattle.px_app.proofs.Links.{links_pass, links_first}
 
@@ -134,6 +134,10 @@ holds_more (History memory) h done plain fresh holds = record {
   rows = one_more (History memory) h done fresh holds.rows;
   passes = use_once (codes "history") (settled rules h).rows true (ap (has_row (codes "history")) holds.rows ∙ fresh) refl;
 }
+holds_more (Source name) h done plain fresh holds = record {
+  rows = one_more (Source name) h done fresh holds.rows;
+  passes = use_once (codes "source") (settled rules h).rows true (ap (has_row (codes "source")) holds.rows ∙ fresh) refl;
+}
 holds_more Tape h done plain fresh holds = record { rows = one_more Tape h done fresh holds.rows; passes = refl }
 
 -- the words of one setting
@@ -150,6 +154,8 @@ goes (Accept links) h done rest plain fresh holds =
     two_words (codes "accept") (codes "--accept") (decimal links) h rest (is_no_flag (decimal links) (links_first links plain.1)) holds.passes refl refl refl
 goes (History memory) h done rest plain fresh holds =
     two_words (codes "history") (codes "--history") (history_word memory) h rest (history_bare memory) holds.passes refl refl refl
+goes (Source name) h done rest plain fresh holds =
+    two_words (codes "source") (codes "--source") name h rest (is_no_flag name (path_first name plain.0)) holds.passes refl refl refl
 goes Tape h done rest plain fresh holds = (
   (λ i. (holds.passes i && ((not (has_row (codes "tape") (holds.rows i)) || false) && true) && true) && walk_passes top [] (walk_from (taped h)) rest)
       ∙ ap (λ b. ((not b || false) && true) && true && walk_passes top [] (walk_from (taped h)) rest) fresh,

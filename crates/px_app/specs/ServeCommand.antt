@@ -6,6 +6,7 @@ use Rattle.clap.specs.Words.{App, Row, Rule, fault_of, first_of, matches_of, new
 use Rattle.clap.specs.Simple.{new_shape}
 use Rattle.clap.specs.declared.builder.action.ArgAction.TheVariants.{Set, SetTrue}
 use Rattle.clap.specs.declared.builder.value_parser.ValueParser.TheVariants.{NonEmptyString, Signed}
+use Rattle.px_names.specs.Source.{is_source_name}
 use Rattle.px_app.specs.declared.serve_words.words.ServeWords.{ServeWords}
 
 -- an option with one value
@@ -30,7 +31,7 @@ serve_command = record {
   top = record (new_shape (codes "serve")) {
     disable_help_flag = true;
     rules = path_rule (codes "header") ∷ path_rule (codes "socket") ∷ path_rule (codes "out") ∷ accept_rule
-        ∷ option_rule (codes "history") ∷ tape_rule ∷ [];
+        ∷ option_rule (codes "history") ∷ option_rule (codes "source") ∷ tape_rule ∷ [];
   };
   subs = [];
 }
@@ -48,6 +49,11 @@ abbrev pub history_of : Option (List ℕ) → Option Bool
 history_of None = Some false
 history_of (Some word) = if bytes_eq word (codes "none") then Some false else (if bytes_eq word (codes "memory") then Some true else None)
 
+-- the name of the default source, by the value of the option, where it is one; without one there is no name
+abbrev pub source_of : Option (List ℕ) → Option (Option (List ℕ))
+source_of None = Some None
+source_of (Some name) = if is_source_name name then Some (Some name) else None
+
 -- whether an option without a value is set, by the text that it leaves
 abbrev pub is_set : Option (List ℕ) → Bool
 is_set None = false
@@ -61,6 +67,7 @@ pub record Reads (rows : List Row) (said : ServeWords) : Type 0 where
   pub accept : option_map number (one_of (codes "accept") rows) ≡ Some said.options.accept
   pub history : history_of (first_of (codes "history") rows) ≡ Some said.options.memory
   pub tape : said.tape ≡ is_set (first_of (codes "tape") rows)
+  pub source : source_of (first_of (codes "source") rows) ≡ Some said.source
 
 -- digits of a number of links, 1 to 65,535
 abbrev pub IsLinks : List ℕ → Type 0
@@ -73,6 +80,10 @@ pub record HasOptions (rows : List Row) : Type 0 where
   pub out : IsSome (first_of (codes "out") rows)
   pub accept : (text : List ℕ) × (one_of (codes "accept") rows ≡ Some text) × IsLinks text
 
--- clap refuses the words, or the history that they name isn't one
+-- the history that they name isn't one, or the name of a source isn't one
+abbrev pub IsUnknown : List Row → Type 0
+IsUnknown rows = (history_of (first_of (codes "history") rows) ≡ None) ⊎ (source_of (first_of (codes "source") rows) ≡ None)
+
+-- clap refuses the words, or names in them aren't known
 abbrev pub Refused : List (List ℕ) → Type 0
-Refused words = (fault_of serve_command words ≢ []) ⊎ (history_of (first_of (codes "history") (rows words)) ≡ None)
+Refused words = (fault_of serve_command words ≢ []) ⊎ IsUnknown (rows words)

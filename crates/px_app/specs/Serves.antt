@@ -36,15 +36,16 @@ abbrev pub AreNone : List (List ℕ) → Type 0
 AreNone texts = Denied texts × ((said : ServeWords) → Plain texts said → ⊥)
 
 module _ {D R C : Type 0} (core_visible : C → Option (List CoreEntry)) (core_faults core_fulls : C → ℕ) (now : D → DeviceState) (visible : R → Option (List LaneEntry)) (faults fulls : R → ℕ) where
-  -- a serving call on the sinks of a header, after which the host took back all that it handed out, and the tape was written, where there is one
-  pub record IsServing (header : Header) (taped : Bool) (before after : HostState D R C) (out_before out_after : Output) (answered : Status) : Type 0 where
+  -- a serving call on the sinks of a header, with this name of the default source, or none, after which the host took back all that it handed out,
+  -- and the tape was written, where there is one
+  pub record IsServing (source : Option (List ℕ)) (header : Header) (taped : Bool) (before after : HostState D R C) (out_before out_after : Output) (answered : Status) : Type 0 where
     pub parts : List (LanePart D R)
     pub core : Option C
     pub served_state : HostState D R C
     pub parts_state : HostState D R C
     pub ended : Status
     pub tape : Option (List Event)
-    pub served : IsServed core_visible core_faults core_fulls now visible faults fulls header before served_state ended parts core
+    pub served : IsServed core_visible core_faults core_fulls now visible faults fulls source header before served_state ended parts core
     -- where the core's recorder came back, the host had made just these devices and recorders
     pub exact : IsSome core → Lends (length parts) 1 before served_state
     pub recorded : HasTape visible taped ended parts tape
@@ -58,7 +59,8 @@ module _ {D R C : Type 0} (core_visible : C → Option (List CoreEntry)) (core_f
       ((answered ≡ status.Memory) × ((after ≡ before) ⊎ (after ≡ started_by options before)))
       ⊎ ((answered ≡ status.Host) × FailsOnce before after)
 
-  -- the host was started with these options, and the header in its header file was served, if it is one
+  -- the host was started with these options, and the header in its header file was served, if it is one, with the name of the default source that
+  -- the words give, or none
   abbrev pub ServesWith : ServeWords → ServeEnd → HostState D R C → HostState D R C → Output → Output → Type 0
   ServesWith said Usage before after out_before out_after = ⊥
   ServesWith said (Refused at cause) before after out_before out_after =
@@ -67,7 +69,7 @@ module _ {D R C : Type 0} (core_visible : C → Option (List CoreEntry)) (core_f
   ServesWith said (Ended answered) before after out_before out_after =
       (IsEarly said.options answered before after × (out_after ≡ out_before))
       ⊎ ((bytes : List ℕ) × (header : Header) × WhereVisible before.header (λ all. bytes ≡ all) × (header_of bytes ≡ Ok header)
-      × IsHeader header × IsServing header said.tape (started_by said.options before) after out_before out_after answered)
+      × IsHeader header × IsServing said.source header said.tape (started_by said.options before) after out_before out_after answered)
 
   -- `serve` by these words
   abbrev pub ServesBy : List (List ℕ) → ServeEnd → HostState D R C → HostState D R C → Output → Output → Type 0

@@ -236,7 +236,7 @@ handle_replies {P} state me t (commands.Attributes stream asked adjust_latency e
 handle_replies state me t (commands.EmptyList n) = a_reply (reply_to t) refl (plain_byte t)
 handle_replies {P} state me t (commands.LookupSink name) = each_then (Replies {P = P}) (sink_called state.names name) _ (λ sink. a_reply (reply_to t ++ number sink.0) refl (reply_byte t (number sink.0)))
 handle_replies {P} state me t (commands.DefaultSink name) = each_then (Replies {P = P}) (sink_called state.names name) _ (λ sink. a_reply (reply_to t) refl (plain_byte t))
-handle_replies {P} state me t commands.ServerInfo = each_then (Replies {P = P}) (present (target_of (default_sink state)) NoEntity) _ (λ sink. a_reply (server_reply (spoken_by me) t (server_of sink)) refl (server_byte (spoken_by me) t (server_of sink)))
+handle_replies {P} state me t commands.ServerInfo = each_then (Replies {P = P}) (present (target_of (default_sink state)) NoEntity) _ (λ sink. a_reply (server_reply (spoken_by me) t (server_of state.names.source sink)) refl (server_byte (spoken_by me) t (server_of state.names.source sink)))
 handle_replies {P} state me t (commands.ClientInfo client) =
     each_then (Replies {P = P}) (present (client_numbered state.names.clients client) NoEntity) _ (λ found. a_reply (with_client (reply_to t) (info_of found)) refl (client_byte t (info_of found)))
 handle_replies state me t commands.ClientInfoList = a_reply (clients_reply t (map info_of state.names.clients)) refl (clients_byte t (map info_of state.names.clients))

@@ -50,7 +50,7 @@ use Rattle.px_msg.specs.View.{sample_spec}
 use Rattle.px_types.specs.declared.ids.InputId.{InputId}
 use Rattle.px_outcome.specs.declared.input.Standing.{Standing}
 use Rattle.px_outcome.specs.declared.input.Standing.TheVariants.{Settled, Moving, Leaving}
-use Rattle.px_state.specs.State.{State, new_state, goes_on, connection_of, input_named, stream_of}
+use Rattle.px_state.specs.State.{State, new_state, new_state_with, goes_on, connection_of, input_named, stream_of}
 use Rattle.px_core.specs.Command.{spoken_by, default_sink, handle, read_answer, is_barred, command_answer, head_answer}
 use Rattle.px_core.specs.Connecting.{is_full, new_connection, joined, connected, ended, going_on}
 use Rattle.px_core.specs.Notice.{is_on, input_on, owner_of, notified_of, left_of, arrival_at, arrived_with, given_up_by, given_up, notice_answer}
@@ -85,8 +85,8 @@ use Rattle.px_core.proofs.VolumeLaws.{sink_volume_lawful, sink_mute_lawful, inpu
 no_lists : {A : Type 0} (none : List A) (n index : ℕ) → get_or (replicate n none) index none ≡ none
 no_lists none n index = ⊎_elim (λ l. get_or-replicate n index none none l) (λ l. get_or_past (replicate n none) index none (omega (arith, l, length-replicate n none))) (cases_lt index n)
 
-pub new_keeps : {P : Type 0} (spec_of : P → SampleSpec) (header : Header) → IsHeader header → IsConsistent spec_of (new_state {P = P} header)
-new_keeps {P} spec_of header h = record {
+pub new_keeps_with : {P : Type 0} (spec_of : P → SampleSpec) (source : Option (List ℕ)) (header : Header) → IsHeader header → IsConsistent spec_of (new_state_with {P = P} source header)
+new_keeps_with {P} spec_of source header h = record {
   steady = record {
     sinks = h.sinks;
     distinct = tt;
@@ -100,6 +100,9 @@ new_keeps {P} spec_of header h = record {
   grouped = new_grouped header.sinks;
   still = tt;
 }
+
+pub new_keeps : {P : Type 0} (spec_of : P → SampleSpec) (header : Header) → IsHeader header → IsConsistent spec_of (new_state {P = P} header)
+new_keeps spec_of header h = new_keeps_with spec_of None header h
 
 -- ---- commands
 

@@ -111,8 +111,8 @@ pub(crate) fn server<P: Drop>(
     tag: u32,
 ) -> Result<StepOutcome<Msg<P>, Group>, Refusal>
     requires { AreSinks [] tables.now.sinks }
-    ensures { HandledAs result (server_info (default_sink (state_of tables.now)) version tag) }
+    ensures { HandledAs result (server_info tables.now.names.source (default_sink (state_of tables.now)) version tag) }
 {
     let named = default_sink(alloc, &tables.names, tables.sinks.as_slice())?;
-    server_info(alloc, named, version, tag)
+    server_info(alloc, tables.names.source(), named, version, tag)
 }

@@ -1,11 +1,11 @@
 //! The core as a machine.
 
 ghost use Rattle.std.specs.Prelude.{◌≡◌, ◌<◌, ◌+◌, length, IfOk, IfErr, IfSome, IsSome, OnOk, OnErr};
-ghost use Rattle.std.specs.Option.{option_to_list};
+ghost use Rattle.std.specs.Option.{option_map, option_to_list};
 ghost use Rattle.px_frame.specs.Frame.{IsBody};
 ghost use Rattle.px_header.specs.HeaderRules.{IsHeader};
 ghost use Rattle.px_state.specs.Effect.{IsSendable};
-ghost use Rattle.px_state.specs.State.{new_state};
+ghost use Rattle.px_state.specs.State.{new_state_with};
 ghost use Rattle.px_core.specs.Connecting.{version_of};
 ghost use Rattle.px_core.specs.Step.{Step, stepped, effects_of};
 ghost use Rattle.px_core.specs.Consistency.{IsConsistent};
@@ -16,6 +16,7 @@ use crate::{found, frames, notice};
 use px_frame::{Frame, FrameFault};
 use px_header::Header;
 use px_msg::{Msg, Notice, Parcel};
+use px_names::SourceName;
 use px_outcome::Reason;
 use px_state::{Effect, Effects, Tables, closed_for, hand_out, new_tables, outgoing, put_back};
 use px_types::{ConnId, Mem, SinkId};
@@ -44,14 +45,14 @@ impl<P: Parcel> Model for Core<P> {
 }
 
 impl<P: Parcel + Drop> Core<P> {
-    /// A core before its first step.
-    pub fn new(alloc: Global, header: &Header) -> Mem<Core<P>>
+    /// A core before its first step. `source` is the name of the default source that it tells its clients, if any.
+    pub fn new(alloc: Global, header: &Header, source: Option<&SourceName>) -> Mem<Core<P>>
         requires { IsHeader header.now }
-        ensures { IfOk result (λ core. core.state ≡ new_state header.now) }
+        ensures { IfOk result (λ core. core.state ≡ new_state_with (option_map (λ name. name.now) source.entry) header.now) }
     {
         Ok(Core {
             alloc,
-            tables: new_tables(alloc, header)?,
+            tables: new_tables(alloc, header, source)?,
         })
     }
 

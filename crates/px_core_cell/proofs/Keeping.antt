@@ -23,7 +23,7 @@ use Rattle.px_core.specs.Orderly.{inputs_there}
 use Rattle.px_core.specs.Hearing.{posted_by_steps}
 use Rattle.px_core.specs.Step.{Step, stepped, stepped_by}
 use Rattle.px_core.proofs.HearingLaws.{steps_sinks, posted_joined}
-use Rattle.px_core.proofs.StepLaws.{new_keeps, steps_keep}
+use Rattle.px_core.proofs.StepLaws.{new_keeps_with, steps_keep}
 use Rattle.px_core_cell.specs.declared.step.CoreStep.{CoreStep}
 use Rattle.px_core_cell.specs.declared.step.CoreStep.TheVariants as asked
 use Rattle.px_core_cell.specs.declared.step.StepFault.{StepFault}
@@ -194,7 +194,7 @@ module _ {C : Type 0} (visible : C → Option (List CoreEntry)) (began : State P
       let sinks : began.sinks ≡ h.header.sinks = ap (λ (s : State PlainStream). s.sinks) h.state_is in
       record {
         sound = record {
-          core = subst (λ (s : State PlainStream). IsConsistent spec_of s) (sym h.state_is) (new_keeps spec_of h.header h.lawful);
+          core = subst (λ (s : State PlainStream). IsConsistent spec_of s) (sym h.state_is) (new_keeps_with spec_of h.source h.header h.lawful);
           count = ap (λ (l : List SinkEnds). length l) h.ends_are ∙ length-map h.header.sinks fresh_ends ∙ ap (λ (l : List SinkSpec). length l) (sym sinks);
           heard = λ index s e there is.
               let fresh : fresh_ends s ≡ e = same_Some (fresh_ends s) e (ap (λ (o : Option SinkSpec). option_map fresh_ends o) (sym (ap (λ (l : List SinkSpec). slice_get l index) (sym sinks) ∙ there)) ∙ at_end index ∙ is) in

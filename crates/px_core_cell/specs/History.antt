@@ -13,7 +13,7 @@ use Rattle.px_header.specs.HeaderRules.{IsHeader}
 use Rattle.px_msg.specs.declared.notice.Notice.{Notice}
 use Rattle.px_msg.specs.View.{sample_spec}
 use Rattle.px_msg.specs.Letters.{AreLawful, inputs_after}
-use Rattle.px_state.specs.State.{State, new_state}
+use Rattle.px_state.specs.State.{State, new_state_with}
 use Rattle.px_state.specs.Out.{waiting_for}
 use Rattle.px_core.specs.Consistency.{IsConsistent}
 use Rattle.px_core.specs.Orderly.{inputs_there}
@@ -142,11 +142,12 @@ pub record Course (C : Type 0) : Type 0 where
 abbrev pub fresh_ends : SinkSpec → SinkEnds
 fresh_ends s = record { key = Some s.spec; posted = []; taken = []; held = None }
 
--- a core before its first step, with such mailboxes for each sink
+-- a core before its first step, whatever name of a default source it tells, with such mailboxes for each sink
 pub record Begins (state : State PlainStream) (ends : List SinkEnds) : Type 0 where
   pub header : Header
   pub lawful : IsHeader header
-  pub state_is : state ≡ new_state header
+  pub source : Option (List ℕ)
+  pub state_is : state ≡ new_state_with source header
   pub ends_are : ends ≡ map fresh_ends header.sinks
 
 abbrev pub first_cell : {C : Type 0} → State PlainStream → C → List SinkEnds → Cell C

@@ -63,12 +63,12 @@ impl<L: Seats> CoreSeat<L> {
 }
 
 impl Seats for Brand {
-    ghost use Rattle.std.specs.Prelude.{[]};
+    ghost use Rattle.std.specs.Prelude.{[], None};
 
     ghost all = { 0 };
 
     ghost began = { record {
-      names = record { cookie = []; sinks = []; fallback = record { 0 = 0 }; clients = [] };
+      names = record { cookie = []; sinks = []; fallback = record { 0 = 0 }; source = None; clients = [] };
       sinks = [];
       connections = [];
       inputs = [];

@@ -38,12 +38,12 @@ set_default_sink names tag name = do
   sink ← sink_called names name
   Ok (replied (reply_to tag) (Defaulted sink ∷ []))
 
--- the server's info, where this is its default sink
-abbrev pub server_of : Target → ServerInfo
-server_of sink = record { spec = raw_of sink.spec; name = sink.name; map = sink.map }
+-- the server's info, where `source` is the name of the default source, if it tells one, and `sink` the default sink
+abbrev pub server_of : Option (List ℕ) → Target → ServerInfo
+server_of source sink = record { spec = raw_of sink.spec; name = sink.name; source = source; map = sink.map }
 
--- GET_SERVER_INFO at a version, where `named` is the default sink
-abbrev pub server_info : {M G : Type 0} → Named → ℕ → ℕ → Handled (OutcomeParts M G)
-server_info named version tag = do
+-- GET_SERVER_INFO at a version, where `source` is the name of the default source, if any, and `named` the default sink
+abbrev pub server_info : {M G : Type 0} → Option (List ℕ) → Named → ℕ → ℕ → Handled (OutcomeParts M G)
+server_info source named version tag = do
   sink ← present (target_of named) NoEntity
-  Ok (replied (server_reply version tag (server_of sink)) [])
+  Ok (replied (server_reply version tag (server_of source sink)) [])

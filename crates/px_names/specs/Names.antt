@@ -7,11 +7,13 @@ use Rattle.px_types.specs.declared.error_code.ErrorCode.{ErrorCode}
 use Rattle.px_types.specs.declared.error_code.ErrorCode.TheVariants.{Invalid, NoEntity}
 use Rattle.px_names.specs.declared.client.Client.{Client}
 
--- the server's cookie, the names of its sinks in order, its default sink, and its clients in order of connecting
+-- the server's cookie, the names of its sinks in order, its default sink, the name of the default source, where the server tells one, and its
+-- clients in order of connecting
 pub record Naming : Type 0 where
   pub cookie : List ℕ
   pub sinks : List (List ℕ)
   pub fallback : SinkId
+  pub source : Option (List ℕ)
   pub clients : List Client
 
 -- the index that names no sink

@@ -7,6 +7,7 @@ ghost use Rattle.px_names.specs.Names.{Naming, same_text, sink_at, sink_called, 
 
 use crate::client::{Client, forget, set_list, set_mask, update};
 use crate::sinks::SinkNames;
+use crate::source::{SourceName, copied_source};
 use px_tag::{Mode, PropList};
 use px_types::limits::NO_INDEX;
 use px_types::{ConnId, ErrorCode, Mem, SinkId, Text};
@@ -16,13 +17,14 @@ use std::marker::Model;
 /// The name that always names the default sink (`pulse/def.h`).
 pub const DEFAULT_NAME: &[u8] = b"@DEFAULT_SINK@";
 
-/// The names that a server holds: its cookie, its sinks' names with the default sink, and its clients in order of
-/// connecting. A contract sees them as a record of these four.
+/// The names that a server holds: its cookie, its sinks' names with the default sink, the name of the default source, where
+/// it tells one, and its clients in order of connecting. A contract sees them as a record of these five.
 #[derive(Drop)]
 pub struct Names {
     cookie: Text,
     sinks: SinkNames,
     fallback: SinkId,
+    source: Option<SourceName>,
     clients: Vec<Client>,
     alloc: Global,
 }
@@ -33,23 +35,31 @@ impl Model for Names {
 
     ghost Value = { Naming };
 
-    ghost view = { λ n. record { cookie = n.cookie; sinks = n.sinks; fallback = n.fallback; clients = n.clients.items } };
+    ghost view = { λ n. record { cookie = n.cookie; sinks = n.sinks; fallback = n.fallback; source = n.source; clients = n.clients.items } };
 
     ghost invariant = { λ n. n.fallback.0 < length n.sinks };
 }
 
 impl Names {
-    /// A server with this cookie and these sinks, the first of them the default sink, and no client.
-    pub fn new(alloc: Global, cookie: &[u8], sinks: &SinkNames) -> Mem<Names>
-        ensures { IfOk result (λ made. made ≡ record { cookie = cookie.now; sinks = sinks.now; fallback = record { 0 = 0 }; clients = [] }) }
+    /// A server with this cookie and these sinks, the first of them the default sink, and no client. `source` is the name of
+    /// the default source that it tells, if any.
+    pub fn new(
+        alloc: Global,
+        cookie: &[u8],
+        sinks: &SinkNames,
+        source: Option<&SourceName>,
+    ) -> Mem<Names>
+        ensures { IfOk result (λ made. made ≡ record { cookie = cookie.now; sinks = sinks.now; fallback = record { 0 = 0 }; source = option_map (λ name. name.now) source.entry; clients = [] }) }
     {
         let cookie = Text::copied(alloc, cookie)?;
         let _count = sinks.as_slice().len();
         let sinks = sinks.copy(alloc)?;
+        let source = copied_source(alloc, source)?;
         Ok(Names {
             cookie,
             sinks,
             fallback: SinkId(0),
+            source,
             clients: Vec::new(alloc),
             alloc,
         })
@@ -129,6 +139,13 @@ impl Names {
         ensures { self.new ≡ record self.old { fallback = sink } }
     {
         self.fallback = sink;
+    }
+
+    /// The name of the default source, where the server tells one. Takes no memory.
+    pub fn source(&self) -> Option<&SourceName>
+        ensures { option_map (λ name. name.now) result ≡ self.now.source }
+    {
+        self.source.as_ref()
     }
 
     /// The sinks' names, in order. Takes no memory.

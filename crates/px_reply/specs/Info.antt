@@ -11,9 +11,9 @@ use Rattle.px_reply.specs.Front.{reply_to, nothing, driver}
 abbrev pub since : ℕ → ℕ → List ℕ → List ℕ
 since least version fields = cond (nat_le least version) fields []
 
--- GET_SERVER_INFO: server name, version, user, host, the default sink's spec, its name, no default source, cookie 0; from 15 on its map
+-- GET_SERVER_INFO: server name, version, user, host, the default sink's spec, its name, the default source's, cookie 0; from 15 on the sink's map
 abbrev pub server_reply : ℕ → ℕ → ServerInfo → List ℕ
-server_reply version tag i = reply_to tag ++ driver ++ text (Some (codes "1")) ++ text (Some (codes "pulse")) ++ text (Some (codes "localhost")) ++ spec i.spec ++ text (Some i.name) ++ text None ++ number 0 ++ since 15 version (channel_map i.map)
+server_reply version tag i = reply_to tag ++ driver ++ text (Some (codes "1")) ++ text (Some (codes "pulse")) ++ text (Some (codes "localhost")) ++ spec i.spec ++ text (Some i.name) ++ text i.source ++ number 0 ++ since 15 version (channel_map i.map)
 
 -- what a sink has from 15 on: base volume, state (running), number of volume steps, no card
 abbrev pub sink_state : List ℕ

@@ -3,11 +3,13 @@
 use px_tag::{PropList, RawMap, RawSpec, RawVolume};
 use px_types::Text;
 
-/// The server: the default sink's spec, name and map. The map is sent from version 15 on.
+/// The server: the default sink's spec, name and map, and the default source's name, `None` for the null string. The map is
+/// sent from version 15 on.
 #[derive(Drop)]
 pub struct ServerInfo {
     pub spec: RawSpec,
     pub name: Text,
+    pub source: Option<Text>,
     pub map: RawMap,
 }
 

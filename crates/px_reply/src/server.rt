@@ -47,11 +47,12 @@ fn put_name(writer: &mut TagWriter, name: &Option<Text>) -> Mem<()>
     }
 }
 
-// Appends the server: its name and version, user and host, its spec, its default sink, no source, no cookie.
+// Appends the server: its name and version, user and host, its spec, its default sink and source, no cookie.
 fn put_server(writer: &mut TagWriter, info: &ServerInfo) -> Mem<()>
     requires name { IsTrue (is_text info.now.name) }
+    requires source { IsText info.now.source }
     requires channels { info.now.spec.channels ≤ 32 }
-    ensures { OnOk result (writer.new ≡ writer.old ++ driver ++ text (Some (codes "1")) ++ text (Some (codes "pulse")) ++ text (Some (codes "localhost")) ++ spec info.now.spec ++ text (Some info.now.name) ++ text None ++ number 0) }
+    ensures { OnOk result (writer.new ≡ writer.old ++ driver ++ text (Some (codes "1")) ++ text (Some (codes "pulse")) ++ text (Some (codes "localhost")) ++ spec info.now.spec ++ text (Some info.now.name) ++ text info.now.source ++ number 0) }
 {
     put_driver(writer)?;
     writer.text(Some(b"1"))?;
@@ -59,7 +60,7 @@ fn put_server(writer: &mut TagWriter, info: &ServerInfo) -> Mem<()>
     writer.text(Some(b"localhost"))?;
     writer.spec(&info.spec)?;
     writer.text(Some(info.name.as_slice()))?;
-    writer.text(None)?;
+    put_name(writer, &info.source)?;
     writer.number(0)
 }
 
@@ -76,6 +77,7 @@ fn put_map(writer: &mut TagWriter, version: u16, map: &RawMap) -> Mem<()>
 /// The reply to GET_SERVER_INFO, at a client's version.
 pub fn server_info(alloc: Global, tag: u32, version: u16, info: &ServerInfo) -> Mem<Packet>
     requires name { IsTrue (is_text info.now.name) }
+    requires source { IsText info.now.source }
     requires channels { info.now.spec.channels ≤ 32 }
     ensures { IfOk result (λ packet. packet ≡ server_reply version tag info.now) }
 {

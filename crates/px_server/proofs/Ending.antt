@@ -12,7 +12,7 @@ use Rattle.px_ends.specs.Device.{DeviceState}
 use Rattle.px_ends.specs.Host.{HostState}
 use Rattle.px_header.specs.declared.header.Header.{Header}
 use Rattle.px_header.specs.declared.header.SinkSpec.{SinkSpec}
-use Rattle.px_state.specs.State.{State, new_state}
+use Rattle.px_state.specs.State.{State, new_state_with}
 use Rattle.px_core_cell.specs.Cause.{IsCaused}
 use Rattle.px_core_cell.specs.Cell.{Cell, SinkEnds}
 use Rattle.px_core_cell.specs.History.{IsReplay, IsAgreed}
@@ -76,14 +76,14 @@ module _ {D R C : Type 0} (now : D → DeviceState) (visible : R → Option (Lis
   undecided_is before after stops.Host works cause = record { stop = stops.Host; cause = cause; fault = None; recorder_back = refl; status = refl }
   undecided_is before after (stops.Unrecorded why) works cause = record { stop = stops.Memory; cause = tt; fault = None; recorder_back = refl; status = refl }
 
-  pub unserved_is : (header : Header) (idle : List (Unworked D R)) (before after : HostState D R C) (stop : Stop) (answered : Status) (parts : List (LanePart D R)) (core : Option C)
+  pub unserved_is : (source : Option (List ℕ)) (header : Header) (idle : List (Unworked D R)) (before after : HostState D R C) (stop : Stop) (answered : Status) (parts : List (LanePart D R)) (core : Option C)
       → IsFrontOf (map start_of idle) (starts_of header.sinks) → IsLater before after → HasLent (length idle) 0 after → IsCauseOf stop before after
       → answered ≡ undecided stop → ((began : State PlainStream) → AreParts began None now visible faults fulls (map unworked idle) parts) → core ≡ None
-      → IsServed core_visible core_faults core_fulls now visible faults fulls header before after answered parts core
-  unserved_is header idle before after stop answered parts core front later lent cause is all none =
-      let count : length parts ≡ length idle = parts_count (new_state header) None now visible faults fulls (map unworked idle) parts (all (new_state header)) ∙ length-map idle unworked in
-      subst (λ (s : Status). IsServed core_visible core_faults core_fulls now visible faults fulls header before after s parts core) (sym is)
-      (subst (λ (o : Option C). IsServed core_visible core_faults core_fulls now visible faults fulls header before after (undecided stop) parts o) (sym none)
+      → IsServed core_visible core_faults core_fulls now visible faults fulls source header before after answered parts core
+  unserved_is source header idle before after stop answered parts core front later lent cause is all none =
+      let count : length parts ≡ length idle = parts_count (new_state_with source header) None now visible faults fulls (map unworked idle) parts (all (new_state_with source header)) ∙ length-map idle unworked in
+      subst (λ (s : Status). IsServed core_visible core_faults core_fulls now visible faults fulls source header before after s parts core) (sym is)
+      (subst (λ (o : Option C). IsServed core_visible core_faults core_fulls now visible faults fulls source header before after (undecided stop) parts o) (sym none)
       (record {
         later = later;
         lent = subst (λ (n : ℕ). HasLent n 0 after) (sym count) lent;
@@ -93,7 +93,7 @@ module _ {D R C : Type 0} (now : D → DeviceState) (visible : R → Option (Lis
         ends = record {
           works = map unworked idle;
           all = starts_unworked idle;
-          lanes = all (new_state header);
+          lanes = all (new_state_with source header);
           decided = undecided_is before after stop (map unworked idle) cause;
         };
         whole = λ fine. absurd (not_fine stop fine);
@@ -104,12 +104,12 @@ module _ {D R C : Type 0} (now : D → DeviceState) (visible : R → Option (Lis
         not_fine stops.Host fine = search rules
         not_fine (stops.Unrecorded why) fine = search rules
 
-  pub served_is : (header : Header) (began : State PlainStream) (idle : List (Unworked D R)) (before after : HostState D R C) (answered : Status) (parts : List (LanePart D R)) (core : Option C)
-      → began ≡ new_state header → map start_of idle ≡ starts_of header.sinks → IsLater before after → HasLent (length idle) 1 after → IsSome core
+  pub served_is : (source : Option (List ℕ)) (header : Header) (began : State PlainStream) (idle : List (Unworked D R)) (before after : HostState D R C) (answered : Status) (parts : List (LanePart D R)) (core : Option C)
+      → began ≡ new_state_with source header → map start_of idle ≡ starts_of header.sinks → IsLater before after → HasLent (length idle) 1 after → IsSome core
       → Ends core_visible core_faults core_fulls began now visible faults fulls (map start_of idle) before after answered parts core
-      → IsServed core_visible core_faults core_fulls now visible faults fulls header before after answered parts core
-  served_is header began idle before after answered parts None is starts later lent some ends = absurd (none_there C some)
-  served_is header began idle before after answered parts (Some recorder) is starts later lent some ends =
+      → IsServed core_visible core_faults core_fulls now visible faults fulls source header before after answered parts core
+  served_is source header began idle before after answered parts None is starts later lent some ends = absurd (none_there C some)
+  served_is source header began idle before after answered parts (Some recorder) is starts later lent some ends =
       let count : length parts ≡ length idle =
       parts_count began (core_visible recorder) now visible faults fulls ends.works parts ends.lanes ∙ sym (length-map ends.works (λ w. Worked.start w)) ∙ ap length ends.all ∙ length-map idle start_of in
       record {
@@ -125,16 +125,16 @@ module _ {D R C : Type 0} (now : D → DeviceState) (visible : R → Option (Lis
         starts_all same = search rules
 
   -- where the core's recorder came back, there is a part for each sink of the header
-  pub served_count : (header : Header) (before after : HostState D R C) (answered : Status) (parts : List (LanePart D R)) (core : Option C)
-      → IsServed core_visible core_faults core_fulls now visible faults fulls header before after answered parts core → IsSome core → length parts ≡ length header.sinks
-  served_count header before after answered parts core s some =
+  pub served_count : (source : Option (List ℕ)) (header : Header) (before after : HostState D R C) (answered : Status) (parts : List (LanePart D R)) (core : Option C)
+      → IsServed core_visible core_faults core_fulls now visible faults fulls source header before after answered parts core → IsSome core → length parts ≡ length header.sinks
+  served_count source header before after answered parts core s some =
       parts_count _ _ now visible faults fulls s.ends.works parts s.ends.lanes ∙ sym (length-map s.ends.works (λ w. Worked.start w)) ∙ ap length s.ends.all ∙ ap length (s.all some) ∙ starts_count 0 header.sinks
 
   -- it is the same call seen from before the host made its parts
-  pub served_since : (header : Header) (before made after : HostState D R C) (answered : Status) (parts : List (LanePart D R)) (core : Option C)
-      → IsLater before made → IsCalm before made → IsServed core_visible core_faults core_fulls now visible faults fulls header made after answered parts core
-      → IsServed core_visible core_faults core_fulls now visible faults fulls header before after answered parts core
-  served_since header before made after answered parts core first calm s =
+  pub served_since : (source : Option (List ℕ)) (header : Header) (before made after : HostState D R C) (answered : Status) (parts : List (LanePart D R)) (core : Option C)
+      → IsLater before made → IsCalm before made → IsServed core_visible core_faults core_fulls now visible faults fulls source header made after answered parts core
+      → IsServed core_visible core_faults core_fulls now visible faults fulls source header before after answered parts core
+  served_since source header before made after answered parts core first calm s =
       let d = s.ends.decided in record {
         later = later_later before made after first s.later;
         lent = s.lent;

@@ -10,7 +10,7 @@ use Rattle.px_annals.specs.declared.stream.PlainStream.{PlainStream}
 use Rattle.px_ends.specs.Device.{DeviceState}
 use Rattle.px_ends.specs.Host.{HostState}
 use Rattle.px_header.specs.declared.header.Header.{Header}
-use Rattle.px_state.specs.State.{State, new_state}
+use Rattle.px_state.specs.State.{State, new_state_with}
 use Rattle.px_core_cell.specs.Cause.{IsCaused}
 use Rattle.px_server.specs.declared.served.LanePart.{LanePart}
 use Rattle.px_workers.specs.declared.stop.Stop.{Stop}
@@ -47,8 +47,8 @@ module _ {D R C : Type 0} (core_visible : C → Option (List CoreEntry)) (core_f
     pub lanes : AreParts began (visible_there core_visible core) now visible faults fulls works parts
     pub decided : IsDecided before after answered works core
 
-  -- a serving call on the sinks of a header
-  pub record IsServed (now : D → DeviceState) (visible : R → Option (List LaneEntry)) (faults fulls : R → ℕ) (header : Header)
+  -- a serving call on the sinks of a header, with this name of the default source, or none
+  pub record IsServed (now : D → DeviceState) (visible : R → Option (List LaneEntry)) (faults fulls : R → ℕ) (source : Option (List ℕ)) (header : Header)
       (before after : HostState D R C) (answered : Status) (parts : List (LanePart D R)) (core : Option C) : Type 0 where
     pub later : IsLater before after
     -- the host can take back all that it handed out
@@ -57,6 +57,6 @@ module _ {D R C : Type 0} (core_visible : C → Option (List CoreEntry)) (core_f
     pub starts : List Start
     pub front : IsFrontOf starts (starts_of header.sinks)
     pub all : IsSome core → starts ≡ starts_of header.sinks
-    pub ends : Ends (new_state header) now visible faults fulls starts before after answered parts core
+    pub ends : Ends (new_state_with source header) now visible faults fulls starts before after answered parts core
     -- where nothing failed, the core's recorder is there
     pub whole : answered ≡ status.Ok → IsSome core

@@ -1,8 +1,8 @@
 //! The serving call.
-ghost use Rattle.std.specs.Prelude.{◌≡◌, ◌+◌, ◌≤◌, [], length, map, IfOk, IfErr, OnOk, IsSome, IfSome, None, vec_capacity};
+ghost use Rattle.std.specs.Prelude.{◌≡◌, ◌+◌, ◌≤◌, [], length, map, option_map, IfOk, IfErr, OnOk, IsSome, IfSome, None, vec_capacity};
 ghost use Rattle.px_annals.specs.declared.stream.PlainStream.{PlainStream};
 ghost use Rattle.px_header.specs.HeaderRules.{IsHeader};
-ghost use Rattle.px_state.specs.State.{State, new_state};
+ghost use Rattle.px_state.specs.State.{State, new_state_with};
 ghost use Rattle.px_core_cell.specs.Boxes.{boxes_of};
 ghost use Rattle.px_core_cell.specs.Cell.{ends_of};
 ghost use Rattle.px_core_cell.specs.History.{fresh_ends};
@@ -24,6 +24,7 @@ use px_cell::{CoreCell, CoreEnds, CoreSeat, Seats};
 use px_core::Core;
 use px_ends::{Host, Outlet};
 use px_header::Header;
+use px_names::SourceName;
 use px_pool::Pool;
 use px_shared::{CoreHandle, Shared};
 use px_tape::SinkTurns;
@@ -130,6 +131,7 @@ fn pool_of(alloc: Global) -> Mem<Arc<Pool>> {
 fn core_of<C, L>(
     alloc: Global,
     header: &Header,
+    source: Option<&SourceName>,
     recorder: C,
     ends: CoreEnds,
     blank: Blank,
@@ -140,14 +142,14 @@ where
     requires header { IsHeader header.now }
     requires name { blank.name ≡ L.name }
     requires parts { (blank.parts ≡ L.parts) × (L.parts ≡ 65552) × (L.all ≡ 65552) }
-    requires began { L.began ≡ new_state header.now }
+    requires began { L.began ≡ new_state_with (option_map (λ name. name.now) source.entry) header.now }
     requires boxes { map boxes_of ends.items ≡ L.boxes }
     requires ends { map ends_of ends.items ≡ map fresh_ends header.now.sinks }
     requires none { IfSome (C.visible recorder) (λ entries. entries ≡ []) }
     requires unfailed { (C.faults recorder ≡ 0) × (C.fulls recorder ≡ 0) }
     ensures { IfOk result (λ made. made.1.parts ≡ 65552) }
 {
-    let core = Core::new(alloc, header)?;
+    let core = Core::new(alloc, header, source)?;
     Ok(CoreCell::new(blank, core, recorder, ends))
 }
 
@@ -156,6 +158,7 @@ fn handle_of<R, C, L, O>(
     rt: &R,
     alloc: Global,
     header: &Header,
+    source: Option<&SourceName>,
     recorder: C,
     ends: CoreEnds,
     taped: bool,
@@ -169,7 +172,7 @@ where
     requires header { IsHeader header.now }
     requires name { blank.name ≡ L.name }
     requires parts { (blank.parts ≡ L.parts) × (L.parts ≡ 65552) × (L.all ≡ 65552) }
-    requires began { L.began ≡ new_state header.now }
+    requires began { L.began ≡ new_state_with (option_map (λ name. name.now) source.entry) header.now }
     requires boxes { map boxes_of ends.items ≡ L.boxes }
     requires ends { map ends_of ends.items ≡ map fresh_ends header.now.sinks }
     requires none { IfSome (C.visible recorder) (λ entries. entries ≡ []) }
@@ -177,7 +180,7 @@ where
     ensures { IfOk result (λ handle. handle.seat.parts ≡ 65552) }
 {
     let pool = pool_of(alloc)?;
-    let (core, seat) = core_of::<C, L>(alloc, header, recorder, ends, blank)?;
+    let (core, seat) = core_of::<C, L>(alloc, header, source, recorder, ends, blank)?;
     let sinks = header.sinks.len() as u8;
     let shared = Arc::new(alloc, Shared::new(alloc, core, pool, sinks, taped))?;
     Ok(CoreHandle {
@@ -193,6 +196,7 @@ fn serve_made<R, H, G, L>(
     rt: &R,
     alloc: Global,
     header: &Header,
+    source: Option<&SourceName>,
     host: &mut H,
     gate: Arc<G>,
     made: Made<H>,
@@ -213,7 +217,7 @@ where
     requires header { IsHeader header.now }
     requires name { blank.name ≡ L.name }
     requires parts { (blank.parts ≡ L.parts) × (L.parts ≡ 65552) × (L.all ≡ 65552) }
-    requires began { L.began ≡ new_state header.now }
+    requires began { L.began ≡ new_state_with (option_map (λ name. name.now) source.entry) header.now }
     requires boxes { map boxes_of made.ends.items ≡ L.boxes }
     requires made { AreMade taped 0 header.now.sinks made.idle.items made.ends.items }
     requires nothing_posted { IfSome (H.C.visible made.recorder) (λ entries. entries ≡ []) }
@@ -223,7 +227,7 @@ where
     requires no_turns { made.turns.items ≡ [] }
     requires turns_room { length made.idle.items ≤ vec_capacity made.turns }
     requires lent { HasLent (length made.idle.items) 1 (H.now host.old) }
-    ensures served { IsServed H.C.visible H.C.faults H.C.fulls H.D.now H.R.visible H.R.faults H.R.fulls header.now (H.now host.old) (H.now host.new) result.status result.lanes.items result.core }
+    ensures served { IsServed H.C.visible H.C.faults H.C.fulls H.D.now H.R.visible H.R.faults H.R.fulls (option_map (λ name. name.now) source.entry) header.now (H.now host.old) (H.now host.new) result.status result.lanes.items result.core }
     ensures lent { (H.now host.new).lent ≡ (H.now host.old).lent }
     ensures count { IsSome result.core → length result.lanes.items ≡ length header.now.sinks }
     ensures tape { HasTape H.R.visible taped result.status result.lanes.items result.tape }
@@ -235,7 +239,7 @@ where
         recorder,
         turns,
     } = made;
-    match handle_of::<R, H::C, L, H::O>(rt, alloc, header, recorder, ends, taped, blank) {
+    match handle_of::<R, H::C, L, H::O>(rt, alloc, header, source, recorder, ends, taped, blank) {
         Ok(handle) => run(handle, host, gate, idle, lanes, turns, taped),
         Err(_) => unserved(lanes, idle, Stop::Memory),
     }
@@ -246,6 +250,7 @@ fn serve_within<R, H, G>(
     rt: &R,
     alloc: Global,
     header: &Header,
+    source: Option<&SourceName>,
     host: &mut H,
     gate: Arc<G>,
     lanes: Vec<LanePart<H::D, H::R>>,
@@ -266,7 +271,7 @@ where
     requires room { length header.now.sinks ≤ vec_capacity lanes }
     requires no_turns { turns.items ≡ [] }
     requires turns_room { length header.now.sinks ≤ vec_capacity turns }
-    ensures served { IsServed H.C.visible H.C.faults H.C.fulls H.D.now H.R.visible H.R.faults H.R.fulls header.now (H.now host.old) (H.now host.new) result.status result.lanes.items result.core }
+    ensures served { IsServed H.C.visible H.C.faults H.C.fulls H.D.now H.R.visible H.R.faults H.R.fulls (option_map (λ name. name.now) source.entry) header.now (H.now host.old) (H.now host.new) result.status result.lanes.items result.core }
     ensures exact { IsSome result.core → Lends (length result.lanes.items) 1 (H.now host.old) (H.now host.new) }
     ensures tape { HasTape H.R.visible taped result.status result.lanes.items result.tape }
     ensures dialled { H.dialled host.new ≡ H.dialled host.old }
@@ -282,19 +287,22 @@ where
                 turns,
             };
             let blank = Blank::new(PARTS);
-            serve_made::<R, H, G, Brand>(rt, alloc, header, host, gate, made, lanes, taped, blank)
+            serve_made::<R, H, G, Brand>(
+                rt, alloc, header, source, host, gate, made, lanes, taped, blank,
+            )
         }
         Err(stop) => unserved(lanes, idle, stop),
     }
 }
 
 /// Serves the clients that the host hands out, on the sinks of a header, until the host says that no more come and all have gone, or until something
-/// fails. Hands back what the host made, and with `taped` the tape: what the server did, as the events of a session. (PulseAudio: `main` of
-/// daemon/main.c with its threads.)
+/// fails. `source` is the name that clients are told as the default source's; without it they are told none, as there is no source. Hands back what
+/// the host made, and with `taped` the tape: what the server did, as the events of a session. (PulseAudio: `main` of daemon/main.c with its threads.)
 pub fn serve<R, H, G>(
     rt: &R,
     alloc: Global,
     header: &Header,
+    source: Option<&SourceName>,
     host: &mut H,
     gate: Arc<G>,
     taped: bool,
@@ -309,7 +317,7 @@ where
     H::C: 'static,
     G: Gate + Drop + Send + Sync + 'static,
     requires { IsHeader header.now }
-    ensures served { IsServed H.C.visible H.C.faults H.C.fulls H.D.now H.R.visible H.R.faults H.R.fulls header.now (H.now host.old) (H.now host.new) result.status result.lanes.items result.core }
+    ensures served { IsServed H.C.visible H.C.faults H.C.fulls H.D.now H.R.visible H.R.faults H.R.fulls (option_map (λ name. name.now) source.entry) header.now (H.now host.old) (H.now host.new) result.status result.lanes.items result.core }
     ensures exact { IsSome result.core → Lends (length result.lanes.items) 1 (H.now host.old) (H.now host.new) }
     ensures tape { HasTape H.R.visible taped result.status result.lanes.items result.tape }
     ensures dialled { H.dialled host.new ≡ H.dialled host.old }
@@ -317,7 +325,7 @@ where
     let mut lanes = Vec::new(alloc);
     let mut turns = Vec::new(alloc);
     match make_room(header.sinks.len(), &mut lanes, &mut turns) {
-        Ok(()) => serve_within(rt, alloc, header, host, gate, lanes, turns, taped),
+        Ok(()) => serve_within(rt, alloc, header, source, host, gate, lanes, turns, taped),
         Err(_) => unserved(lanes, VecDeque::new(alloc), Stop::Memory),
     }
 }

@@ -1,7 +1,7 @@
 -- The state of the core: the names, the sinks, the connections with their streams, the requests that are answered later, and the messages queued for
 -- each sink, with its group of volumes (PulseAudio: `pa_core`, and `pa_native_connection` of pulsecore/protocol-native.c; that messages are queued as
 -- data is own).
-use Rattle.std.specs.Prelude.{ℕ, List, [], map, filter, length, replicate}
+use Rattle.std.specs.Prelude.{ℕ, List, [], map, filter, length, replicate, Option, None}
 use Rattle.px_names.specs.Names.{Naming}
 use Rattle.px_names.specs.declared.input_lists.InputList.{InputList}
 use Rattle.px_header.specs.declared.header.Header.{Header}
@@ -17,7 +17,7 @@ pub use Rattle.px_outcome.specs.Waiting.{is_as, waiting_of_others}
 
 -- P is the type of a parcel: a stream that moves from one sink to another
 pub record State (P : Type 0) : Type 0 where
-  -- the cookie, the sinks' names with the default sink, and the clients in order of connecting
+  -- the cookie, the sinks' names with the default sink, the name of the default source, and the clients in order of connecting
   pub names : Naming
   -- the sinks in order of index
   pub sinks : List SinkSpec
@@ -39,10 +39,10 @@ pub record State (P : Type 0) : Type 0 where
   pub clients_made : ℕ
   pub inputs_made : ℕ
 
--- a core before its first step
-abbrev pub new_state : {P : Type 0} → Header → State P
-new_state header = record {
-  names = record { cookie = header.cookie; sinks = map (λ s. SinkSpec.name s) header.sinks; fallback = record { 0 = 0 }; clients = [] };
+-- a core before its first step, where `source` is the name of the default source that it tells, if any
+abbrev pub new_state_with : {P : Type 0} → Option (List ℕ) → Header → State P
+new_state_with source header = record {
+  names = record { cookie = header.cookie; sinks = map (λ s. SinkSpec.name s) header.sinks; fallback = record { 0 = 0 }; source = source; clients = [] };
   sinks = header.sinks;
   connections = [];
   inputs = [];
@@ -54,6 +54,10 @@ new_state header = record {
   clients_made = 0;
   inputs_made = 0;
 }
+
+-- one that tells none
+abbrev pub new_state : {P : Type 0} → Header → State P
+new_state header = new_state_with None header
 
 -- the connections that have ended
 abbrev pub marked_of : List Connection → List Connection

@@ -4,9 +4,10 @@ ghost use Rattle.std.specs.Prelude.{◌≡◌, ◌++◌, ◌∷◌, [], map, rep
 ghost use Rattle.px_header.specs.declared.header.SinkSpec.{SinkSpec};
 ghost use Rattle.px_header.specs.HeaderRules.{IsHeader, AreSinks};
 ghost use Rattle.std.specs.List.{AllByRecursion};
+ghost use Rattle.std.specs.Option.{option_map};
 ghost use Rattle.px_flat.specs.FlatVolume.{new_group};
 ghost use Rattle.px_sinks.specs.Sinks.{IsOfHeader};
-ghost use Rattle.px_state.specs.State.{new_state};
+ghost use Rattle.px_state.specs.State.{new_state_with};
 ghost use Rattle.px_state.specs.Tables.{lists_of, state_of};
 
 use crate::tables::Tables;
@@ -14,7 +15,7 @@ use px_flat::Group;
 use px_header::{Header, SinkSpec, SinkSpecs};
 use px_input_table::InputTable;
 use px_msg::Msg;
-use px_names::{InputLists, Names, SinkNames};
+use px_names::{InputLists, Names, SinkNames, SourceName};
 use px_types::{Mem, Text};
 use std::alloc::Global;
 use std::collections::VecDeque;
@@ -85,23 +86,27 @@ fn groups_for(alloc: Global, sinks: &[SinkSpec]) -> Mem<Vec<Group>>
     Ok(made)
 }
 
-// The names of a server with this header and no client.
-fn names_for(alloc: Global, header: &Header) -> Mem<Names>
+// The names of a server with this header, this name of a default source, if any, and no client.
+fn names_for(alloc: Global, header: &Header, source: Option<&SourceName>) -> Mem<Names>
     requires { IsHeader header.now }
-    ensures { IfOk result (λ made. made ≡ record { cookie = header.now.cookie; sinks = map (λ s. SinkSpec.name s) header.now.sinks; fallback = record { 0 = 0 }; clients = [] }) }
+    ensures { IfOk result (λ made. made ≡ record { cookie = header.now.cookie; sinks = map (λ s. SinkSpec.name s) header.now.sinks; fallback = record { 0 = 0 }; source = option_map (λ name. name.now) source.entry; clients = [] }) }
 {
     let sinks = SinkNames::new(names_of(alloc, header.sinks.as_slice())?).unwrap();
-    Names::new(alloc, header.cookie.as_slice(), &sinks)
+    Names::new(alloc, header.cookie.as_slice(), &sinks, source)
 }
 
-// The names of a server with this header and no client, and its sinks.
-fn names_and_sinks(alloc: Global, header: &Header) -> Mem<(Names, SinkSpecs)>
+// The names of a server with this header, this name of a default source, if any, and no client; and its sinks.
+fn names_and_sinks(
+    alloc: Global,
+    header: &Header,
+    source: Option<&SourceName>,
+) -> Mem<(Names, SinkSpecs)>
     requires { IsHeader header.now }
-    ensures names { IfOk result (λ made. made.0 ≡ record { cookie = header.now.cookie; sinks = map (λ s. SinkSpec.name s) header.now.sinks; fallback = record { 0 = 0 }; clients = [] }) }
+    ensures names { IfOk result (λ made. made.0 ≡ record { cookie = header.now.cookie; sinks = map (λ s. SinkSpec.name s) header.now.sinks; fallback = record { 0 = 0 }; source = option_map (λ name. name.now) source.entry; clients = [] }) }
     ensures sinks { IfOk result (λ made. made.1 ≡ header.now.sinks) }
 {
     let sinks = copied_sinks(alloc, header.sinks.as_slice())?;
-    let names = names_for(alloc, header)?;
+    let names = names_for(alloc, header, source)?;
     Ok((names, SinkSpecs::from_vec(sinks)))
 }
 
@@ -119,14 +124,19 @@ fn queues_and_groups<P: Drop>(
     Ok((posted, groups))
 }
 
-/// The tables of a server with this header: no client, no input and no message.
-pub fn new_tables<P: Drop>(alloc: Global, header: &Header) -> Mem<Tables<P>>
+/// The tables of a server with this header: no client, no input and no message. `source` is the name of the default source
+/// that it tells, if any.
+pub fn new_tables<P: Drop>(
+    alloc: Global,
+    header: &Header,
+    source: Option<&SourceName>,
+) -> Mem<Tables<P>>
     requires { IsHeader header.now }
-    ensures state { IfOk result (λ tables. state_of tables ≡ new_state header.now) }
+    ensures state { IfOk result (λ tables. state_of tables ≡ new_state_with (option_map (λ name. name.now) source.entry) header.now) }
     ensures sinks { IfOk result (λ tables. AreSinks [] tables.sinks) }
 {
     let (posted, groups) = queues_and_groups(alloc, header.sinks.as_slice())?;
-    let (names, sinks) = names_and_sinks(alloc, header)?;
+    let (names, sinks) = names_and_sinks(alloc, header, source)?;
     Ok(Tables {
         names,
         sinks,

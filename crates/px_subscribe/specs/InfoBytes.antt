@@ -40,7 +40,7 @@ abbrev pub IsWritableClient : ClientInfo → Type 0
 IsWritableClient info = IsText info.name
 
 abbrev pub IsWritableServer : ServerInfo → Type 0
-IsWritableServer info = IsTrue (is_text info.name) × (info.spec.channels ≤ 32)
+IsWritableServer info = IsTrue (is_text info.name) × (info.spec.channels ≤ 32) × IsText info.source
 
 -- ---- all infos of one moment
 

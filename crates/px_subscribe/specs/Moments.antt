@@ -29,7 +29,7 @@ info_lists_of sinks s = record {
   sinks = sink_info_list s.groups (targets_of sinks);
   inputs = input_info_list s.groups s.lists s.inputs;
   clients = map info_of s.clients;
-  server = option_map server_of (target_at sinks s.fallback);
+  server = option_map (server_of s.source) (target_at sinks s.fallback);
 }
 
 -- a live connection, with the mask of its client

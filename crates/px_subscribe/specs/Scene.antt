@@ -29,6 +29,8 @@ pub record Scene : Type 0 where
   -- the number of sinks with names, and the default sink
   pub sinks : ℕ
   pub fallback : SinkId
+  -- the name of the default source, where the server tells one
+  pub source : Option (List ℕ)
   -- in order of connecting
   pub connections : List Connection
   -- in rising index
@@ -201,6 +203,7 @@ scene_at names connections inputs lists groups inputs_made = record {
   clients = names.clients;
   sinks = length names.sinks;
   fallback = names.fallback;
+  source = names.source;
   connections = connections;
   inputs = inputs;
   lists = lists;

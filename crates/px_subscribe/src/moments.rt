@@ -18,22 +18,27 @@ use px_ctl_info::{client_info_list, input_info_list, server_of, sink_info_list};
 use px_flat::Group;
 use px_header::SinkSpec;
 use px_msg::Msg;
-use px_names::Client;
+use px_names::{Client, SourceName};
 use px_outcome::{Change, Connection, Sending};
 use px_reply::ServerInfo;
 use px_sinks::{target_at, targets_of};
 use px_types::{ConnId, InputId, Mem, SinkId};
 use std::alloc::Global;
 
-// The info of the server.
-fn server_info(alloc: Global, sinks: &[SinkSpec], fallback: SinkId) -> Mem<Option<ServerInfo>>
+// The info of the server, where `source` is the name of the default source, if it tells one.
+fn server_info(
+    alloc: Global,
+    source: Option<&SourceName>,
+    sinks: &[SinkSpec],
+    fallback: SinkId,
+) -> Mem<Option<ServerInfo>>
     requires { AreSinks [] sinks.now }
-    ensures value { IfOk result (λ info. info ≡ option_map server_of (target_at sinks.now fallback)) }
+    ensures value { IfOk result (λ info. info ≡ option_map (server_of (option_map (λ name. name.now) source.entry)) (target_at sinks.now fallback)) }
     ensures writable { IfOk result (λ info. IfSome info IsWritableServer) }
 {
     match target_at(alloc, sinks, fallback)? {
         None => Ok(None),
-        Some(target) => Ok(Some(server_of(alloc, &target)?)),
+        Some(target) => Ok(Some(server_of(alloc, source, &target)?)),
     }
 }
 
@@ -95,7 +100,7 @@ impl Scene {
             sinks: sink_info_list(alloc, &targets, &self.groups)?,
             inputs: input_info_list(alloc, &self.inputs, &self.groups, &self.lists)?,
             clients: client_info_list(alloc, &self.clients)?,
-            server: server_info(alloc, sinks, self.fallback)?,
+            server: server_info(alloc, self.source.as_ref(), sinks, self.fallback)?,
         })
     }
 

@@ -17,7 +17,7 @@ use crate::copies::{
 use px_flat::Group;
 use px_input_table::{arrive, depart, input_of, leave, set_attr};
 use px_msg::Msg;
-use px_names::{Client, InputLists, Names};
+use px_names::{Client, InputLists, Names, SourceName, copied_source};
 use px_outcome::{Change, Connection, Input, Standing};
 use px_sinks::set_group;
 use px_tag::PropList;
@@ -26,13 +26,14 @@ use std::alloc::Global;
 use std::marker::Model;
 
 /// The parts of the server's state that infos and subscriptions read, at one moment: the clients with their masks, the
-/// default sink, the connections, the inputs with their property lists, and the groups of volumes. Changes can be made to it
+/// default sink, the name of the default source, the connections, the inputs with their property lists, and the groups of volumes. Changes can be made to it
 /// before they are made to the state.
 #[derive(Drop)]
 pub struct Scene {
     pub(crate) clients: Vec<Client>,
     sinks: usize,
     pub(crate) fallback: SinkId,
+    pub(crate) source: Option<SourceName>,
     pub(crate) connections: Vec<Connection>,
     pub(crate) inputs: Vec<Input>,
     pub(crate) lists: InputLists,
@@ -49,6 +50,7 @@ impl Model for Scene {
       clients = s.clients.items;
       sinks = s.sinks;
       fallback = s.fallback;
+      source = s.source;
       connections = s.connections.items;
       inputs = s.inputs.items;
       lists = s.lists.items;
@@ -180,6 +182,7 @@ impl Scene {
             clients: copy_clients(alloc, names.clients())?,
             sinks: names.sinks().as_slice().len(),
             fallback: names.default(),
+            source: copied_source(alloc, names.source())?,
             connections: copy_connections(alloc, connections)?,
             inputs: copy_inputs(alloc, inputs)?,
             lists: copy_lists(lists)?,

@@ -96,7 +96,7 @@ impl World {
     {
         let spares = Spares::new(alloc)?;
         let mixers = new_mixers(alloc, header.sinks.as_slice())?;
-        let core = Core::new(alloc, header)?;
+        let core = Core::new(alloc, header, None)?;
         let doors = Vec::new(alloc);
         Ok(World {
             core,

@@ -1,5 +1,5 @@
 //! The `serve` command's call.
-ghost use Rattle.std.specs.Prelude.{◌≡◌, map, string_bytes};
+ghost use Rattle.std.specs.Prelude.{◌≡◌, map, option_map, string_bytes};
 ghost use Rattle.px_app.specs.Tape.{WritesTape, faulted, out_end};
 ghost use Rattle.px_header.specs.HeaderRules.{IsHeader};
 ghost use Rattle.px_app.specs.Serves.{IsServing, ServesWith, ServesBy};
@@ -9,6 +9,7 @@ use crate::serve::header::header_in;
 use crate::serve_words::{ServeWords, WordsFault, read_serve_words};
 use px_ends::{HeaderRead, Host, Sink};
 use px_header::Header;
+use px_names::SourceName;
 use px_server::{PaceGate, Served, serve};
 use px_session::{Cause, ReadError};
 use px_tape::Events;
@@ -63,6 +64,7 @@ fn serve_header<R, K, H>(
     rt: &R,
     alloc: Global,
     header: &Header,
+    source: Option<&SourceName>,
     taped: bool,
     output: &mut K,
     host: &mut H,
@@ -78,7 +80,7 @@ where
     H::R: 'static,
     H::C: 'static,
     requires { IsHeader header.now }
-    ensures serves { IsServing H.C.visible H.C.faults H.C.fulls H.D.now H.R.visible H.R.faults H.R.fulls header.now taped (H.now host.old) (H.now host.new)
+    ensures serves { IsServing H.C.visible H.C.faults H.C.fulls H.D.now H.R.visible H.R.faults H.R.fulls (option_map (λ name. name.now) source.entry) header.now taped (H.now host.old) (H.now host.new)
         (out_end (K.held output.old) (K.faults output.old)) (out_end (K.held output.new) (K.faults output.new)) result }
     ensures dialled { H.dialled host.new ≡ H.dialled host.old }
 {
@@ -87,7 +89,7 @@ where
         lanes,
         core,
         tape,
-    } = serve(rt, alloc, header, host, gate, taped);
+    } = serve(rt, alloc, header, source, host, gate, taped);
     let cores = u8::from(core.is_some());
     hand_parts(host, lanes, cores);
     hand_core(host, core);
@@ -123,7 +125,8 @@ where
     };
     match header_in(alloc, bytes) {
         Ok(header) => {
-            let status = serve_header(rt, alloc, &header, said.tape, output, host, gate);
+            let source = said.source.as_ref();
+            let status = serve_header(rt, alloc, &header, source, said.tape, output, host, gate);
             ServeEnd::Ended(status)
         }
         Err(ReadError::Refused { at, cause }) => ServeEnd::Refused { at, cause },

@@ -62,17 +62,28 @@ fn with_paths<'a>(alloc: Global, command: Command<'a>) -> Result<Command<'a>, Al
     with_sources(alloc, command)?.arg(path(alloc, "out"))
 }
 
-// Adds the options that may be left out, and take no path.
-fn with_optional<'a>(alloc: Global, command: Command<'a>) -> Result<Command<'a>, AllocError>
-    ensures { IfOk result (λ more. app_of more ≡ with_rule (with_rule (app_of command.entry) (option_rule (codes "history"))) tape_rule) }
+// Adds the options with a value that may be left out.
+fn with_named<'a>(alloc: Global, command: Command<'a>) -> Result<Command<'a>, AllocError>
+    ensures { IfOk result (λ more. app_of more
+        ≡ with_rule (with_rule (app_of command.entry) (option_rule (codes "history"))) (option_rule (codes "source"))) }
 {
-    command.arg(option(alloc, "history"))?.arg(tape(alloc))
+    command
+        .arg(option(alloc, "history"))?
+        .arg(option(alloc, "source"))
+}
+
+// Adds the options that may be left out.
+fn with_optional<'a>(alloc: Global, command: Command<'a>) -> Result<Command<'a>, AllocError>
+    ensures { IfOk result (λ more. app_of more
+        ≡ with_rule (with_rule (with_rule (app_of command.entry) (option_rule (codes "history"))) (option_rule (codes "source"))) tape_rule) }
+{
+    with_named(alloc, command)?.arg(tape(alloc))
 }
 
 // Adds the options that take no path.
 fn with_others<'a>(alloc: Global, command: Command<'a>) -> Result<Command<'a>, AllocError>
     ensures { IfOk result (λ more. app_of more
-        ≡ with_rule (with_rule (with_rule (app_of command.entry) accept_rule) (option_rule (codes "history"))) tape_rule) }
+        ≡ with_rule (with_rule (with_rule (with_rule (app_of command.entry) accept_rule) (option_rule (codes "history"))) (option_rule (codes "source"))) tape_rule) }
 {
     with_optional(alloc, command.arg(accept(alloc))?)
 }

@@ -26,10 +26,11 @@ fn refusal(kind: ErrorKind) -> WordsFault
 
 /// Reads the words of `serve`: all words of the command line after the program's own name, of which the first is `serve`.
 ///
-/// `--header PATH --socket PATH --out DIR --accept N [--history none|memory] [--tape]`, in any order: paths as texts that aren't
-/// empty, and N links, 1 to 65,535. Without `--history` no history is stored. Plain words are never `Usage`, and the options are
-/// their values; other words are read as clap reads this command (`--out=DIR`, say, or a number with leading zeros), and are
-/// `Usage` where clap refuses them for another cause than memory, or where they name another history. Takes memory. Own.
+/// `--header PATH --socket PATH --out DIR --accept N [--history none|memory] [--source NAME] [--tape]`, in any order: paths as texts that aren't
+/// empty, and N links, 1 to 65,535. Without `--history` no history is stored. NAME has 1 to 64 bytes, each 0x21 to 0x7E; without `--source` there is
+/// none. Plain words are never `Usage`, and the options are their values; other words are read as clap reads this command (`--out=DIR`, say, or a
+/// number with leading zeros), and are `Usage` where clap refuses them for another cause than memory, or where they name another history or a source
+/// by something else than a name. Takes memory. Own.
 pub fn read_serve_words(alloc: Global, words: &[String]) -> Result<ServeWords, WordsFault>
     ensures plain { (said : Said) → Plain (map string_bytes words.now) said
         → MatchResult result (λ read. read ≡ said) (λ why. why ≡ fault.NoMemory) }

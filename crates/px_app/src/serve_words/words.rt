@@ -1,15 +1,18 @@
 // The options in the words of `serve`, and why words are refused.
 use px_ends::ServeOptions;
+use px_names::SourceName;
 use px_types::NoMemory;
 use std::alloc::AllocError;
 use std::error::Error;
 use std::fmt;
 
-/// The options in the words of `serve`: those of the server, and whether it records a tape.
-#[derive(Debug, Drop)]
+/// The options in the words of `serve`: those of the server, whether it records a tape, and the name that clients are told as the default source's,
+/// where there is one.
+#[derive(Drop)]
 pub struct ServeWords {
     pub options: ServeOptions,
     pub tape: bool,
+    pub source: Option<SourceName>,
 }
 
 /// Why words of `serve` are refused.

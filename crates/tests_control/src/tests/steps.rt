@@ -3,11 +3,12 @@ ghost use Rattle.px_frame.specs.Frame.{IsBody};
 ghost use Rattle.px_msg.specs.View.{sample_spec};
 ghost use Rattle.px_header.specs.HeaderRules.{IsHeader};
 
-use px_core::Core;
+use px_core::{Core, Effects};
 use px_ends::{Calls, MemSource};
 use px_frame::{Body, Frame, Packet};
 use px_header::Header;
 use px_msg::{Msg, Notice, Parcel};
+use px_names::SourceName;
 use px_sample::{Format, Spec};
 use px_session::{Reader, Step};
 use px_types::{ConnId, InputId, Mem, NoMemory, SinkId, Text};
@@ -15,7 +16,7 @@ use std::alloc::Global;
 
 // A parcel that is a sample spec and nothing else.
 #[derive(Drop)]
-struct Stub {
+pub(crate) struct Stub {
     spec: Spec,
 }
 
@@ -29,7 +30,7 @@ impl Parcel for Stub {
 
 const OUT: SinkId = SinkId(0);
 
-const CLIENT: ConnId = ConnId(7);
+pub(crate) const CLIENT: ConnId = ConnId(7);
 
 const INPUT: InputId = InputId(0);
 
@@ -40,7 +41,7 @@ const MONO: Spec = Spec {
 };
 
 // AUTH of version 13, up to the cookie.
-const AUTH: &[u8] = b"L\0\0\0\x08L\0\0\0\x01L\0\0\0\x0Dx\0\0\x01\0";
+pub(crate) const AUTH: &[u8] = b"L\0\0\0\x08L\0\0\0\x01L\0\0\0\x0Dx\0\0\x01\0";
 
 // CREATE_PLAYBACK_STREAM on the default sink: S16LE, mono, no prebuffering, the rest left to the server.
 const CREATE: &[u8] =
@@ -70,14 +71,19 @@ fn header(alloc: Global, reader: &mut Reader) -> Mem<Header>
 }
 
 // A core with this sink.
-fn new_core(alloc: Global) -> Mem<Core<Stub>> {
+pub(crate) fn new_core(alloc: Global, source: Option<&SourceName>) -> Mem<Core<Stub>> {
     let mut reader = Reader::new(alloc)?;
     let header = header(alloc, &mut reader)?;
-    Core::new(alloc, &header)
+    Core::new(alloc, &header, source)
 }
 
-// The number of effects of a control packet; one that comes back, as memory is short, is handled again as if for the first time.
-fn asked(alloc: Global, core: &mut Core<Stub>, packet: &[u8], more: &[u8]) -> Mem<usize> {
+// The effects of a control packet; one that comes back, as memory is short, is handled again as if for the first time.
+pub(crate) fn answered(
+    alloc: Global,
+    core: &mut Core<Stub>,
+    packet: &[u8],
+    more: &[u8],
+) -> Mem<Effects> {
     let mut bytes = Vec::new(alloc);
     bytes.extend_from_slice(packet)?;
     bytes.extend_from_slice(more)?;
@@ -86,13 +92,19 @@ fn asked(alloc: Global, core: &mut Core<Stub>, packet: &[u8], more: &[u8]) -> Me
     }
     let body = Body::Control(Packet::from_vec(bytes));
     let back = match core.frame(CLIENT, Frame { at: 20, body }) {
-        Ok(effects) => return Ok(effects.as_slice().len()),
+        Ok(effects) => return Ok(effects),
         Err(back) => back,
     };
     match core.frame(CLIENT, back) {
-        Ok(effects) => Ok(effects.as_slice().len()),
+        Ok(effects) => Ok(effects),
         Err(_) => Err(NoMemory),
     }
+}
+
+// The number of its effects.
+fn asked(alloc: Global, core: &mut Core<Stub>, packet: &[u8], more: &[u8]) -> Mem<usize> {
+    let effects = answered(alloc, core, packet, more)?;
+    Ok(effects.as_slice().len())
 }
 
 // The same for the notice that the stream was detached.
@@ -156,7 +168,7 @@ fn lives(alloc: Global, core: &mut Core<Stub>) -> Mem<bool> {
 }
 
 fn is_lived(alloc: Global) -> Mem<bool> {
-    let mut core = new_core(alloc)?;
+    let mut core = new_core(alloc, None)?;
     Ok(matches!(lives(alloc, &mut core), Ok(true)))
 }
 

@@ -85,7 +85,7 @@ fn set_up(alloc: Global, header: &Header) -> Mem<Scene>
     let Some(mixer) = last else {
         return Err(NoMemory);
     };
-    let core = Core::new(alloc, header)?;
+    let core = Core::new(alloc, header, None)?;
     Ok(Scene { core, ends, mixer })
 }
 

@@ -86,7 +86,7 @@ fn status_of<R: Machine>(
 ) -> Status
     requires { IsHeader read.now }
 {
-    serve(rt, rt.alloc(), read, host, gate, false).status
+    serve(rt, rt.alloc(), read, None, host, gate, false).status
 }
 
 // The status of that server with one client.

@@ -96,7 +96,7 @@ fn ends_full<R: Machine>(rt: &R, read: &Header, host: &mut MemHost<R>) -> Mem<bo
     requires { IsHeader read.now }
 {
     let gate = Arc::new(rt.alloc(), Slow { rt: *rt })?;
-    let served = serve(rt, rt.alloc(), read, host, gate, false);
+    let served = serve(rt, rt.alloc(), read, None, host, gate, false);
     Ok(core_was_full(&served))
 }
 

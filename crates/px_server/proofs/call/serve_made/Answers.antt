@@ -1,4 +1,4 @@
-use Rattle.std.proofs.Common.{length, arith, ◌∙◌}
+use Rattle.std.proofs.Common.{length, arith, ◌∙◌, option_map}
 use Rattle.px_workers.specs.declared.stop.Stop.TheVariants.{Memory}
 use Rattle.px_server.proofs.Ending.{few_begin, front_all, unserved_is, served_is, served_count}
 use Rattle.px_workers.proofs.Later.{later_refl}
@@ -59,19 +59,19 @@ returns-in-Ok-clause-served g c =
     let before = g.H.Host.now c.args.host.now in
     let after = g.H.Host.now c.run.new.host in
     served_is g.H.D.Device.now g.H.R.Recorder.visible g.H.R.Recorder.faults g.H.R.Recorder.fulls g.H.C.Recorder.visible g.H.C.Recorder.faults g.H.C.Recorder.fulls
-    c.args.header.now g.L.Seats.began c.args.made.idle.items before after c.run.result.status c.run.result.lanes.items c.run.result.core
+    (option_map (λ name. name.now) c.args.source) c.args.header.now g.L.Seats.began c.args.made.idle.items before after c.run.result.status c.run.result.lanes.items c.run.result.core
     c.requires.began (starts_made c.args.taped 0 c.args.header.now.sinks c.args.made.idle.items c.args.made.ends.items c.requires.made) c.run.ensures.later (lent_same (length c.args.made.idle.items) 1 before after c.run.ensures.lent c.requires.lent) c.run.ensures.core c.run.ensures.ends
 
 pub returns-in-Ok-clause-count : goal.returns-in-Ok-clause-count
 returns-in-Ok-clause-count g c = λ some.
     served_count g.H.D.Device.now g.H.R.Recorder.visible g.H.R.Recorder.faults g.H.R.Recorder.fulls g.H.C.Recorder.visible g.H.C.Recorder.faults g.H.C.Recorder.fulls
-    c.args.header.now (g.H.Host.now c.args.host.now) (g.H.Host.now c.run.new.host) c.run.result.status c.run.result.lanes.items c.run.result.core (returns-in-Ok-clause-served g c) some
+    (option_map (λ name. name.now) c.args.source) c.args.header.now (g.H.Host.now c.args.host.now) (g.H.Host.now c.run.new.host) c.run.result.status c.run.result.lanes.items c.run.result.core (returns-in-Ok-clause-served g c) some
 
 pub returns-in-Err-clause-served : goal.returns-in-Err-clause-served
 returns-in-Err-clause-served g c =
     let before = g.H.Host.now c.args.host.now in
     unserved_is g.H.D.Device.now g.H.R.Recorder.visible g.H.R.Recorder.faults g.H.R.Recorder.fulls g.H.C.Recorder.visible g.H.C.Recorder.faults g.H.C.Recorder.fulls
-    c.args.header.now c.args.made.idle.items before before Memory c.unserved.result.status c.unserved.result.lanes.items c.unserved.result.core
+    (option_map (λ name. name.now) c.args.source) c.args.header.now c.args.made.idle.items before before Memory c.unserved.result.status c.unserved.result.lanes.items c.unserved.result.core
     (front_all c.args.header.now.sinks c.args.made.idle.items (starts_made c.args.taped 0 c.args.header.now.sinks c.args.made.idle.items c.args.made.ends.items c.requires.made)) (later_refl before) (lent_less (length c.args.made.idle.items) before c.requires.lent) tt
     c.unserved.ensures.status c.unserved.ensures.lanes c.unserved.ensures.core
 

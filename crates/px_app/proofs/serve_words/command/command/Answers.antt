@@ -12,7 +12,7 @@ abbrev after_paths : App → App
 after_paths app = with_rule (with_rule (with_rule app (path_rule (codes "header"))) (path_rule (codes "socket"))) (path_rule (codes "out"))
 
 abbrev after_others : App → App
-after_others app = with_rule (with_rule (with_rule app accept_rule) (option_rule (codes "history"))) tape_rule
+after_others app = with_rule (with_rule (with_rule (with_rule app accept_rule) (option_rule (codes "history"))) (option_rule (codes "source"))) tape_rule
 
 pub returns : goal.returns
 returns c =

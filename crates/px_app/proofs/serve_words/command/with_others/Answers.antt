@@ -5,7 +5,7 @@ use Rattle.px_app.specs.ServeCommand.{option_rule, tape_rule}
 use Rattle.px_app.proofs.serve_words.command.with_others.Goals as goal
 
 abbrev after_optional : App → App
-after_optional app = with_rule (with_rule app (option_rule (codes "history"))) tape_rule
+after_optional app = with_rule (with_rule (with_rule app (option_rule (codes "history"))) (option_rule (codes "source"))) tape_rule
 
 pub returns : goal.returns
 returns c =

@@ -1,15 +1,24 @@
-use Rattle.std.proofs.Common.{◌∙◌, ap, sym, codes, inr, option_map}
+use Rattle.std.proofs.Common.{◌∙◌, ap, sym, codes, inl, inr, option_map}
 use Rattle.std.specs.Str.Parse.{ParsesUnsigned, ExplainsUnsignedError, HasUnsignedDigitsIfOk}
-use Rattle.clap.specs.Words.{found_of}
+use Rattle.std.proofs.lemmas.Result.{err_from_is_err_and}
+use Rattle.clap.specs.Words.{found_of, rows_of}
 use Rattle.clap.proofs.WalkLemmas.{first_value-rows, one_text-rows}
-use Rattle.px_app.specs.ServeCommand.{history_of, is_set, number}
+use Rattle.px_app.specs.ServeCommand.{history_of, is_set, number, source_of}
+use Rattle.px_app.proofs.ServeReading.{unknown_source}
 use Rattle.px_app.proofs.Texts.{is_there, links_one}
 use Rattle.px_app.proofs.serve_words.options.options.Goals as goal
 
 pub returns-in_default : goal.returns-in_default
 returns-in_default c =
-    inr (ap history_of (sym (c.get_str.ensures ∙ first_value-rows (found_of c.args.matches.now) (codes "history"))) ∙ sym c.history.ensures
-    ∙ c.in_default.is)
+    inr (inl (ap history_of (sym (c.get_str.ensures ∙ first_value-rows (found_of c.args.matches.now) (codes "history"))) ∙ sym c.history.ensures
+    ∙ c.in_default.is))
+
+pub returns-in_err-source : goal.returns-in_err-source
+returns-in_err-source c =
+    let found = rows_of (found_of c.args.matches.now) in
+    let same = c.get_str-2.ensures ∙ first_value-rows (found_of c.args.matches.now) (codes "source") in
+    let p = err_from_is_err_and c.from_residual.result c.from_residual.ensures.1 in
+    rw (p.1, p.2) (unknown_source found (option_map (λ text. text.now) c.get_str-2.result) c.in_err-source.field-0.0 same c.in_err-source.ensures)
 
 pub unwrap-accept-requires : goal.unwrap-accept-requires
 unwrap-accept-requires c =
@@ -29,5 +38,6 @@ returns c =
       out = c.in_ok-out.ensures;
       accept = ap (option_map number) links.1 ∙ (sym one ∙ c.unwrap-accept.ensures);
       history = ap history_of (sym (c.get_str.ensures ∙ first_value-rows (found_of c.args.matches.now) (codes "history"))) ∙ sym c.history.ensures ∙ c.in-Some.is;
-      tape = c.is_set-tape.ensures ∙ ap is_set (c.get_str-2.ensures ∙ first_value-rows (found_of c.args.matches.now) (codes "tape"));
+      tape = c.is_set-tape.ensures ∙ ap is_set (c.get_str-3.ensures ∙ first_value-rows (found_of c.args.matches.now) (codes "tape"));
+      source = ap source_of (sym (c.get_str-2.ensures ∙ first_value-rows (found_of c.args.matches.now) (codes "source"))) ∙ c.in_ok-source.ensures;
     }
