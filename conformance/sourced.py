@@ -42,9 +42,9 @@ def source_named(program, folder):
 
 
 def source_misnamed(program, folder):
-    """What is no name is refused as other words are: none, one of 65 bytes, and bytes below `!` and above `~`."""
+    """What is no name is refused as other words are: none, one of 65 bytes, and bytes below `!` and above `~`; and what looks like an option."""
     good = True
-    for name in ("", LONGEST + "x", "a b", "a\x7f", "\u00e9"):
+    for name in ("", LONGEST + "x", "a b", "a\x7f", "\u00e9", "-a"):
         words = ["serve", "--header", "h", "--socket", "s", "--out", "o", "--accept", "1", "--source", name]
         said = subprocess.run([program, *words], cwd=folder, capture_output=True, timeout=PATIENCE, text=True)
         good = agree((name, said.returncode, said.stdout, said.stderr[:17]), (name, 2, "", "pulse_rw: usage: ")) and good
