@@ -141,7 +141,7 @@ class Shown(unittest.TestCase):
 class Benchmark(unittest.TestCase):
     def test_session_of_streams(self):
         out = io.BytesIO()
-        session_of_streams.write(out, 1, 2)
+        session_of_streams.write(out, session_of_streams.Shape(1, 2, 960, 960))
         said = read_session(out.getvalue()).events
         turns = [event for event in said if event[0] == 5]
         self.assertEqual((len(turns), sum(turn[2] for turn in turns)), (101, 48_000))
