@@ -68,7 +68,7 @@ class Swift(Maker):
     """Makes a session of lines as `make` does it, but at once where a line is plain data, or a command that was made before."""
 
     def __init__(self, channels):
-        super().__init__()
+        super().__init__(".")
         self.channels, self.known = channels, {}
 
     def swift(self, line):
