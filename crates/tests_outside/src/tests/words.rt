@@ -118,9 +118,7 @@ const RIGHT: [(&str, &str, (u16, bool, bool)); 9] = [
 #[test]
 fn words_are_read_in_any_order_or_wrong(rt: HostRuntime) {
     assert!(rt;
-        RIGHT
-            .iter()
-            .all(|(line, source, wanted)| said(rt.alloc(), line, source) == Some(*wanted))
+        RIGHT.iter().all(|(line, source, wanted)| said(rt.alloc(), line, source) == Some(*wanted))
             && WRONG.iter().all(|line| matches!(read(rt.alloc(), line), Err(WordsFault::Usage)))
     );
 }
