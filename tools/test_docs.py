@@ -53,7 +53,8 @@ class Documents(unittest.TestCase):
         self.assertEqual(self.faults(line * 1_000, "docs/SERVING.md"), [])
         # each document that has a size is there, and the rooms that its readers were promised are not widened unseen
         self.assertEqual([name for name in docs.SIZES if not os.path.exists(os.path.join(docs.TOP, name))], [])
-        self.assertEqual([docs.SIZES[name] for name in ("README.md", "HACKING.md", "docs/ARCHITECTURE.md", "docs/BENCHMARKS.md")], [5_120, 8_192, 12_288, 6_144])
+        promised = {"README": 5_000, "HACKING": 8_192, "docs/ARCHITECTURE": 12_000, "docs/BELIEVE": 10_240, "docs/BENCHMARKS": 6_144, "docs/DECISIONS": 40_000, "docs/PROVED": 30_720}
+        self.assertEqual(docs.SIZES, {f"{name}.md": most for name, most in promised.items()})
 
     def test_numbers(self):
         self.assertEqual(self.faults("- **1** One.\n- **3** Three, **1** and **1**.\n\n## More\n- **2** Two.\n- **1** Again.\n"), ["6: 1 is the number of line 1 too"])
