@@ -142,7 +142,7 @@ where
     requires header { IsHeader header.now }
     requires name { blank.name ≡ L.name }
     requires parts { (blank.parts ≡ L.parts) × (L.parts ≡ 65552) × (L.all ≡ 65552) }
-    requires began { L.began ≡ new_state_with (option_map (λ name. name.now) source.entry) header.now }
+    requires began { L.began ≡ new_state_with (option_map (λ name. name.now) source) header.now }
     requires boxes { map boxes_of ends.items ≡ L.boxes }
     requires ends { map ends_of ends.items ≡ map fresh_ends header.now.sinks }
     requires none { IfSome (C.visible recorder) (λ entries. entries ≡ []) }
@@ -172,7 +172,7 @@ where
     requires header { IsHeader header.now }
     requires name { blank.name ≡ L.name }
     requires parts { (blank.parts ≡ L.parts) × (L.parts ≡ 65552) × (L.all ≡ 65552) }
-    requires began { L.began ≡ new_state_with (option_map (λ name. name.now) source.entry) header.now }
+    requires began { L.began ≡ new_state_with (option_map (λ name. name.now) source) header.now }
     requires boxes { map boxes_of ends.items ≡ L.boxes }
     requires ends { map ends_of ends.items ≡ map fresh_ends header.now.sinks }
     requires none { IfSome (C.visible recorder) (λ entries. entries ≡ []) }
@@ -217,7 +217,7 @@ where
     requires header { IsHeader header.now }
     requires name { blank.name ≡ L.name }
     requires parts { (blank.parts ≡ L.parts) × (L.parts ≡ 65552) × (L.all ≡ 65552) }
-    requires began { L.began ≡ new_state_with (option_map (λ name. name.now) source.entry) header.now }
+    requires began { L.began ≡ new_state_with (option_map (λ name. name.now) source) header.now }
     requires boxes { map boxes_of made.ends.items ≡ L.boxes }
     requires made { AreMade taped 0 header.now.sinks made.idle.items made.ends.items }
     requires nothing_posted { IfSome (H.C.visible made.recorder) (λ entries. entries ≡ []) }
