@@ -215,9 +215,9 @@ module _ {D R C : Type 0} (core_visible : C → Option (List CoreEntry)) (core_f
   }
 
   -- a serving call that ended with Ok, after which all was taken back
-  serving_fine : (header : Header) (taped : Bool) (before after : HostState D R C) (out_before out_after : Output) (answered : Status)
-      → IsServing core_visible core_faults core_fulls now visible faults fulls header taped before after out_before out_after answered → answered ≡ status.Ok → IsFine before after
-  serving_fine header taped before after out_before out_after answered s ok =
+  serving_fine : (source : Option (List ℕ)) (header : Header) (taped : Bool) (before after : HostState D R C) (out_before out_after : Output) (answered : Status)
+      → IsServing core_visible core_faults core_fulls now visible faults fulls source header taped before after out_before out_after answered → answered ≡ status.Ok → IsFine before after
+  serving_fine source header taped before after out_before out_after answered s ok =
       let d = s.served.ends.decided in
       let ended_ok : s.ended ≡ status.Ok = tape_ok header s.tape out_before out_after s.ended answered s.written ok in
       let decides : Decides d.stop d.fault s.served.ends.works = decided_ok d.stop d.fault s.served.ends.works (sym d.status ∙ ended_ok) in
@@ -235,7 +235,7 @@ module _ {D R C : Type 0} (core_visible : C → Option (List CoreEntry)) (core_f
       → ServesWith core_visible core_faults core_fulls now visible faults fulls said (Ended status.Ok) before after out_before out_after → IsFine before after
   with_fine said before after out_before out_after (inl early) = absurd (early_not_ok said.options before after early.0)
   with_fine said before after out_before out_after (inr (bytes, header, told, is, lawful, serving)) =
-      let f = serving_fine header said.tape (started_by said.options before) after out_before out_after status.Ok serving refl in
+      let f = serving_fine said.source header said.tape (started_by said.options before) after out_before out_after status.Ok serving refl in
       record { over = f.over; faults = f.faults; device_faults = f.device_faults; recorder_faults = f.recorder_faults; fulls = f.fulls }
 
   by_fine : (texts : List (List ℕ)) (before after : HostState D R C) (out_before out_after : Output)
