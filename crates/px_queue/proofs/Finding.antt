@@ -3,7 +3,7 @@ use Rattle.std.proofs.Common.{◌≡◌, ℕ, zero, suc, ◌+◌, ◌-◌, ◌<�
 use Rattle.std.specs.Prelude.{slice_index_or, slice_get, IsSome}
 use Rattle.std.proofs.lemmas.Bool.{cases_lt, false≢true}
 use Rattle.px_model.proofs.Places.{got_elem, get-take, get-drop, get_left, get_right}
-use Rattle.px_queue.specs.Pieces.{Piece, end_of, byte_in, first_of, byte_at, Rise}
+use Rattle.px_queue.specs.Pieces.{Piece, end_of, byte_in, first_of, byte_at, last_of, Rise}
 use Rattle.px_queue.proofs.Bytes.{in_below, in_from, in_past, none_low, rise_order}
 
 -- those up to one that ends by a byte index
@@ -42,6 +42,21 @@ all_past low high (p ∷ ps) (suc k) from i few before h =
 pub in_gap : (low high : ℕ) (ps : List Piece) (k from i : ℕ) (d : Piece) → Rise low high ps → Rise low from (take k ps) → from ≤ i → k < length ps → i < (slice_index_or ps k d).at → byte_at ps i ≡ None
 in_gap low high ps k from i d rise before h few less =
     found low high ps k from i d rise before h few (omega arith) ∙ in_below (slice_index_or ps k d) i less
+
+-- ---- those that begin before a byte index, and the others
+
+pub last_taken : (ps : List Piece) (k : ℕ) (d : Piece) → suc k ≤ length ps → last_of (take (suc k) ps) ≡ slice_index_or ps k d
+last_taken [] k d few = absurd (omega arith)
+last_taken (p ∷ []) zero d few = refl
+last_taken (p ∷ []) (suc k) d few = absurd (omega arith)
+last_taken (p ∷ q ∷ ps) zero d few = refl
+last_taken (p ∷ q ∷ ps) (suc k) d few = last_taken (q ∷ ps) k d (omega arith)
+
+pub rise_dropped : (low high from : ℕ) (ps : List Piece) (k : ℕ) (d : Piece) → Rise low high ps → from ≤ high → (k < length ps → from ≤ (slice_index_or ps k d).at) → Rise from high (drop k ps)
+rise_dropped low high from [] zero d rise top past = top
+rise_dropped low high from [] (suc k) d rise top past = top
+rise_dropped low high from (p ∷ ps) zero d rise top past = (past (omega arith), rise.1)
+rise_dropped low high from (p ∷ ps) (suc k) d rise top past = rise_dropped (end_of p) high from ps k d rise.1 top (λ few. past (omega arith))
 
 -- ---- runs
 

@@ -13,3 +13,4 @@ pub mod Ending
 pub mod Moving
 pub mod Hearing
 pub mod Listed
+pub mod Gapped

@@ -1,5 +1,5 @@
 -- Chunks on a shelf, by their numbers: the first, the last, and any; and their parts.
-use Rattle.std.proofs.Common.{◌≡◌, ℕ, zero, suc, ◌+◌, ◌-◌, ◌<◌, ◌≤◌, List, [], ◌∷◌, ◌++◌, length, take, drop, ap, sym, ◌∙◌, subst, arith}
+use Rattle.std.proofs.Common.{◌≡◌, ℕ, zero, suc, ◌+◌, ◌-◌, ◌<◌, ◌≤◌, List, [], ◌∷◌, ◌++◌, length, take, drop, refl, ap, sym, ◌∙◌, subst, arith}
 use Rattle.std.specs.Prelude.{slice_index_or}
 use Rattle.std.specs.List.{AllByRecursion}
 use Rattle.std.proofs.lemmas.List.{append_assoc, map-append, take-take, drop-take, drop-drop, length-map, get_or-map}
@@ -61,6 +61,17 @@ first_is s items xs c v d e is = ap (λ (zs : List Laid). slice_index_or (pieces
 
 pub rest_is : (s : Shelves) (items xs : List Laid) (c : Laid) (v : List Piece) → pieces_of s items ≡ v → items ≡ c ∷ xs → pieces_of s xs ≡ drop 1 v
 rest_is s items xs c v e is = ap (λ (zs : List Laid). drop 1 (pieces_of s zs)) (sym is) ∙ ap (drop 1) e
+
+-- the first chunks, and those after them
+pub pieces_take : (s : Shelves) (items : List Laid) (k : ℕ) → pieces_of s (take k items) ≡ take k (pieces_of s items)
+pieces_take s items zero = refl
+pieces_take s [] (suc k) = refl
+pieces_take s (c ∷ items) (suc k) = ap (λ (ps : List Piece). piece_of s c ∷ ps) (pieces_take s items k)
+
+pub pieces_drop : (s : Shelves) (items : List Laid) (k : ℕ) → pieces_of s (drop k items) ≡ drop k (pieces_of s items)
+pieces_drop s items zero = refl
+pieces_drop s [] (suc k) = refl
+pieces_drop s (c ∷ items) (suc k) = pieces_drop s items k
 
 -- ---- a chunk by its number
 

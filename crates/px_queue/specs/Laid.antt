@@ -42,6 +42,12 @@ pub record Lined : Type 0 where
   pub items : List Laid
   pub capacity : ℕ
 
+-- chunks before a place and those after it (`behind`), and for how many in all there is room
+pub record Parted : Type 0 where
+  pub before : List Laid
+  pub behind : List Laid
+  pub capacity : ℕ
+
 -- a list of chunks: the pieces before the byte index of a write and those after it (`behind`), how many blocks they lie in, and for how many more
 -- chunks and blocks there is room
 pub record Chunked : Type 0 where

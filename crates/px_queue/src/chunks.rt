@@ -1,12 +1,12 @@
 // Chunks in rising order, over a shelf of blocks.
-ghost use Rattle.std.specs.Prelude.{◌≡◌, ◌+◌, ◌-◌, ◌<◌, ◌≤◌, ◌^◌, nat_lt, [], ◌∷◌, ◌++◌, length, take, drop, slice_index_or, if◌then◌else◌, OnOk, IsTrue, IsFalse};
+ghost use Rattle.std.specs.Prelude.{◌≡◌, ◌+◌, ◌-◌, ◌<◌, ◌≤◌, ◌^◌, [], ◌∷◌, ◌++◌, length, take, drop, slice_index_or, if◌then◌else◌, OnOk, IsTrue, IsFalse};
 ghost use Rattle.px_block.specs.Given.{after_giving};
 ghost use Rattle.px_block.specs.Shelved.{under, references_to, bytes_of, released, appended, blocks_on, SetsOnly};
 ghost use Rattle.px_queue.specs.Pieces.{Piece, last_of, front_of, head_to, tail_from, end_of};
 ghost use Rattle.px_queue.specs.Laid.{TOP};
 
 use crate::chunk::Chunk;
-use crate::line::Line;
+use crate::gap_buffer::GapBuffer;
 use px_block::{Block, BlockSource, Mem, Shelf};
 use std::alloc::Global;
 use std::marker::Model;
@@ -20,28 +20,27 @@ const FEW: usize = 1_024;
 #[derive(Debug, Drop)]
 pub(crate) struct Chunks {
     shelf: Shelf,
-    before: Line,
-    behind: Line,
+    list: GapBuffer,
     open: Option<usize>,
 }
 
 impl Model for Chunks {
-    ghost use Rattle.std.specs.Prelude.{◌++◌, ◌+◌, ◌-◌, ◌≤◌, length, min};
+    ghost use Rattle.std.specs.Prelude.{◌++◌, ◌+◌, ◌-◌, ◌≤◌, length};
     ghost use Rattle.px_block.specs.Shelved.{blocks_on};
     ghost use Rattle.px_queue.specs.Laid.{Chunked, pieces_of, IsTied};
 
     ghost Value = { Chunked };
 
     ghost view = { λ c. record {
-      before = pieces_of c.shelf c.before.items;
-      behind = pieces_of c.shelf c.behind.items;
+      before = pieces_of c.shelf c.list.before;
+      behind = pieces_of c.shelf c.list.behind;
       blocks = blocks_on c.shelf;
-      room = min c.before.capacity c.behind.capacity - (length c.before.items + length c.behind.items);
+      room = c.list.capacity - (length c.list.before + length c.list.behind);
       block_room = c.shelf.room;
     } };
 
-    ghost invariant = { λ c. IsTied c.shelf (c.before.items ++ c.behind.items)
-        × (length c.before.items + length c.behind.items ≤ min c.before.capacity c.behind.capacity) };
+    ghost invariant = { λ c. IsTied c.shelf (c.list.before ++ c.list.behind)
+        × (length c.list.before + length c.list.behind ≤ c.list.capacity) };
 }
 
 impl Chunks {
@@ -53,8 +52,7 @@ impl Chunks {
     {
         Chunks {
             shelf: Shelf::new(alloc),
-            before: Line::new(alloc),
-            behind: Line::new(alloc),
+            list: GapBuffer::new(alloc),
             open: None,
         }
     }
@@ -63,7 +61,7 @@ impl Chunks {
     pub(crate) fn len(&self) -> usize
         ensures { result ≡ length self.now.before }
     {
-        self.before.len()
+        self.list.len()
     }
 
     /// Whether `before` is empty.
@@ -72,14 +70,7 @@ impl Chunks {
         ensures no { IsFalse result → 0 < length self.now.before }
         ensures blocks { IsTrue result → self.now.behind ≡ [] → self.now.blocks ≡ 0 }
     {
-        self.before.is_empty()
-    }
-
-    /// Whether `behind` has any.
-    pub(crate) fn has_behind(&self) -> bool
-        ensures { result ≡ nat_lt 0 (length self.now.behind) }
-    {
-        !self.behind.is_empty()
+        self.list.is_empty()
     }
 
     /// The byte index at which chunk `k` of `before` begins.
@@ -88,7 +79,7 @@ impl Chunks {
         ensures value { (d : Piece) → result ≡ (slice_index_or self.now.before k d).at }
         ensures few { result ≤ TOP }
     {
-        self.before.get(k).first()
+        self.list.get(k).first()
     }
 
     /// The byte index at which chunk `k` of `before` ends, one past its last byte.
@@ -97,7 +88,7 @@ impl Chunks {
         ensures value { (d : Piece) → result ≡ end_of (slice_index_or self.now.before k d) }
         ensures few { result ≤ TOP }
     {
-        self.before.get(k).end()
+        self.list.get(k).end()
     }
 
     /// The byte index at which the last chunk of `before` begins.
@@ -117,30 +108,27 @@ impl Chunks {
         self.end(self.len() - 1)
     }
 
-    /// Moves the last chunk of `before` to `behind`.
-    pub(crate) fn step_back(&mut self)
-        requires some { 0 < length self.old.before }
-        ensures before { self.new.before ≡ front_of self.old.before }
-        ensures behind { self.new.behind ≡ last_of self.old.before ∷ self.old.behind }
+    /// Leaves the first `count` chunks in `before`.
+    pub(crate) fn leave(&mut self, count: usize)
+        requires { count ≤ length self.old.before }
+        ensures before { self.new.before ≡ take count self.old.before }
+        ensures behind { self.new.behind ≡ drop count self.old.before ++ self.old.behind }
         ensures blocks { self.new.blocks ≡ self.old.blocks }
         ensures room { self.new.room ≡ self.old.room }
         ensures block_room { self.new.block_room ≡ self.old.block_room }
     {
-        let last = self.before.pop_back().unwrap();
-        self.behind.push_front_reserved(last);
+        self.list.part(count);
     }
 
-    /// Moves the first chunk of `behind` to `before`.
-    pub(crate) fn step_on(&mut self)
-        requires some { 0 < length self.old.behind }
-        ensures all { self.new.before ++ self.new.behind ≡ self.old.before ++ self.old.behind }
-        ensures len { length self.new.behind + 1 ≡ length self.old.behind }
+    /// Moves `behind` to `before`.
+    pub(crate) fn join(&mut self)
+        ensures before { self.new.before ≡ self.old.before ++ self.old.behind }
+        ensures rest { self.new.behind ≡ [] }
         ensures blocks { self.new.blocks ≡ self.old.blocks }
         ensures room { self.new.room ≡ self.old.room }
         ensures block_room { self.new.block_room ≡ self.old.block_room }
     {
-        let first = self.behind.pop_front().unwrap();
-        self.before.push_back_reserved(first);
+        self.list.join();
     }
 
     /// Drops the last chunk of `before`.
@@ -152,7 +140,7 @@ impl Chunks {
         ensures block_room { self.old.block_room ≤ self.new.block_room }
         ensures given { after_giving (B.given source.new) self.new.blocks ≡ after_giving (B.given source.old) self.old.blocks }
     {
-        let last = self.before.pop_back().unwrap();
+        let last = self.list.pop_back().unwrap();
         let_go(&mut self.shelf, last.key(), source);
     }
 
@@ -167,8 +155,8 @@ impl Chunks {
         ensures room { self.new.room ≡ self.old.room }
         ensures block_room { self.new.block_room ≡ self.old.block_room }
     {
-        let last = self.before.pop_back().unwrap();
-        self.before.push_back_reserved(last.head(to));
+        let last = self.list.pop_back().unwrap();
+        self.list.push_back_reserved(last.head(to));
     }
 
     /// Splits the last chunk of `before` at byte index `at`, inside it, in two chunks of one block.
@@ -183,10 +171,10 @@ impl Chunks {
         ensures room { self.old.room ≤ self.new.room + 1 }
         ensures block_room { self.new.block_room ≡ self.old.block_room }
     {
-        let last = self.before.pop_back().unwrap();
+        let last = self.list.pop_back().unwrap();
         self.shelf.retain(last.key());
-        self.before.push_back_reserved(last.head(at));
-        self.behind.push_front_reserved(last.tail(at));
+        self.list.push_back_reserved(last.head(at));
+        self.list.push_behind_reserved(last.tail(at));
     }
 
     /// Appends a block to `before` as a chunk, at byte index `at`.
@@ -202,7 +190,7 @@ impl Chunks {
     {
         let len = block.bytes().len() as u32;
         let key = self.shelf.put(block).unwrap();
-        self.before.push_back_reserved(Chunk::new(at, key, len));
+        self.list.push_back_reserved(Chunk::new(at, key, len));
     }
 
     /// Drops the first chunk of `before`.
@@ -214,7 +202,7 @@ impl Chunks {
         ensures block_room { self.old.block_room ≤ self.new.block_room }
         ensures given { after_giving (B.given source.new) self.new.blocks ≡ after_giving (B.given source.old) self.old.blocks }
     {
-        let first = self.before.pop_front().unwrap();
+        let first = self.list.pop_front().unwrap();
         let_go(&mut self.shelf, first.key(), source);
     }
 
@@ -229,8 +217,8 @@ impl Chunks {
         ensures room { self.new.room ≡ self.old.room }
         ensures block_room { self.new.block_room ≡ self.old.block_room }
     {
-        let first = self.before.pop_front().unwrap();
-        self.before.push_front_reserved(first.tail(from));
+        let first = self.list.pop_front().unwrap();
+        self.list.push_front_reserved(first.tail(from));
     }
 
     /// Makes room for `chunks` more chunks, in `blocks` more blocks. Without memory nothing changes.
@@ -242,10 +230,7 @@ impl Chunks {
         ensures room { self.old.room ≤ self.new.room }
         ensures block_room { self.old.block_room ≤ self.new.block_room }
     {
-        let others = self.behind.len();
-        self.before.reserve(others.saturating_add(chunks))?;
-        let others = self.before.len();
-        self.behind.reserve(others.saturating_add(chunks))?;
+        self.list.reserve(chunks)?;
         self.shelf.reserve(blocks)?;
         Ok(())
     }
@@ -263,15 +248,15 @@ impl Chunks {
         ensures room { self.new.room ≡ self.old.room }
         ensures block_room { self.new.block_room ≡ self.old.block_room }
     {
-        let Some(last) = self.before.pop_back() else {
+        let Some(last) = self.list.pop_back() else {
             return false;
         };
         if grow(&mut self.shelf, &last, at, bytes) {
-            self.before
+            self.list
                 .push_back_reserved(last.longer(bytes.len() as u32));
             return true;
         }
-        self.before.push_back_reserved(last);
+        self.list.push_back_reserved(last);
         false
     }
 
@@ -281,7 +266,7 @@ impl Chunks {
         requires { k < length self.old.before }
         ensures { self.new ≡ self.old }
     {
-        let chunk = self.before.get(k);
+        let chunk = self.list.get(k);
         let end = chunk.place() + chunk.len();
         let key = chunk.key();
         if end > FEW || self.shelf.len_of(key) != end {
@@ -314,7 +299,7 @@ impl Chunks {
         ensures value { (d : Piece) → result.now ≡ take len (drop (from - (slice_index_or self.now.before k d).at) (slice_index_or self.now.before k d).bytes) }
         ensures size { length result.now ≡ len }
     {
-        let chunk = self.before.get(k);
+        let chunk = self.list.get(k);
         let place = chunk.place() + (from - chunk.first()) as usize;
         self.shelf.bytes(chunk.key(), place, len)
     }

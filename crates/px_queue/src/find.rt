@@ -165,6 +165,24 @@ impl Chunks {
         }
         low
     }
+    /// How many chunks begin before byte index `at`, by binary search.
+    pub(crate) fn begun(&self, at: u128) -> usize
+        ensures few { result ≤ length self.now.before }
+        ensures before { (d : Piece) → 0 < result → (slice_index_or self.now.before (result - 1) d).at < at }
+        ensures behind { (d : Piece) → result < length self.now.before → at ≤ (slice_index_or self.now.before result d).at }
+    {
+        let mut low = 0;
+        let mut high = self.len();
+        while low < high {
+            let middle = low + (high - low) / 2;
+            if self.first(middle) < at {
+                low = middle + 1;
+            } else {
+                high = middle;
+            }
+        }
+        low
+    }
 }
 
 // The lesser of both.

@@ -6,6 +6,7 @@
 mod chunk;
 mod chunks;
 mod find;
+mod gap_buffer;
 mod index;
 mod lay;
 mod line;

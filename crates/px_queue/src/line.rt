@@ -1,5 +1,5 @@
 // A queue of chunks in one piece of memory.
-ghost use Rattle.std.specs.Prelude.{◌≡◌, ◌+◌, ◌<◌, ◌≤◌, ◌^◌, ◌==◌, [], ◌∷◌, ◌++◌, length, drop, slice_index_or, vec_len, vec_capacity, OnOk, ◌↔◌, IsSome};
+ghost use Rattle.std.specs.Prelude.{◌≡◌, ◌+◌, ◌-◌, ◌<◌, ◌≤◌, ◌^◌, ◌==◌, [], ◌∷◌, ◌++◌, length, take, drop, slice_index_or, vec_len, vec_capacity, OnOk, ◌↔◌, IsSome};
 ghost use Rattle.std.specs.Option.{option_to_list};
 
 use crate::chunk::Chunk;
@@ -43,7 +43,8 @@ impl Line {
 
     /// The number of chunks.
     pub(crate) fn len(&self) -> usize
-        ensures { result ≡ length self.now.items }
+        ensures value { result ≡ length self.now.items }
+        ensures few { result < 2 ^ 63 }
     {
         self.chunks.len() - self.gone
     }
@@ -100,10 +101,7 @@ impl Line {
         ensures items { self.new.items ≡ self.old.items ++ chunk ∷ [] }
         ensures capacity { self.new.capacity ≡ self.old.capacity }
     {
-        if self.chunks.len() == self.chunks.capacity() {
-            move_up(&mut self.chunks, self.gone);
-            self.gone = 0;
-        }
+        self.gone = make_room(&mut self.chunks, self.gone, 1);
         self.chunks.push_reserved(chunk);
     }
 
@@ -112,12 +110,45 @@ impl Line {
         requires { length self.old.items < self.old.capacity }
         ensures items { self.new.items ≡ chunk ∷ self.old.items }
         ensures capacity { self.new.capacity ≡ self.old.capacity }
+        ensures few { self.new.capacity < 2 ^ 63 }
     {
         if self.gone == 0 {
-            self.gone = free_front(&mut self.chunks, chunk);
+            self.gone = free_front(&mut self.chunks, 1, chunk);
         }
         self.gone -= 1;
         self.chunks[self.gone] = chunk;
+    }
+
+    /// Moves the last `count` chunks of `other` to the front of this line, where there is room. Takes no memory.
+    pub(crate) fn take_back(&mut self, other: &mut Line, count: usize)
+        requires some { 1 ≤ count }
+        requires there { count ≤ length other.old.items }
+        requires room { length self.old.items + count ≤ self.old.capacity }
+        ensures items { self.new.items ≡ drop (length other.old.items - count) other.old.items ++ self.old.items }
+        ensures left { other.new.items ≡ take (length other.old.items - count) other.old.items }
+        ensures capacity { self.new.capacity ≡ self.old.capacity }
+        ensures other_capacity { other.new.capacity ≡ other.old.capacity }
+    {
+        let from = other.chunks.len() - count;
+        self.gone = free_places(&mut self.chunks, self.gone, count, other.chunks[from]);
+        put_before(&mut self.chunks, self.gone, &other.chunks[from..]);
+        self.gone -= count;
+        other.chunks.truncate(from);
+    }
+
+    /// Moves the first `count` chunks of `other` to the back of this line, where there is room. Takes no memory.
+    pub(crate) fn take_front(&mut self, other: &mut Line, count: usize)
+        requires there { count ≤ length other.old.items }
+        requires room { length self.old.items + count ≤ self.old.capacity }
+        ensures items { self.new.items ≡ self.old.items ++ take count other.old.items }
+        ensures left { other.new.items ≡ drop count other.old.items }
+        ensures capacity { self.new.capacity ≡ self.old.capacity }
+        ensures other_capacity { other.new.capacity ≡ other.old.capacity }
+    {
+        self.gone = make_room(&mut self.chunks, self.gone, count);
+        let end = other.gone + count;
+        append_all(&mut self.chunks, &other.chunks[other.gone..end]);
+        other.gone = end;
     }
 
     /// Makes room for `more` more chunks, and for half as many as are there, so that moves to the front stay rare. Without memory nothing changes.
@@ -147,17 +178,71 @@ fn move_up(chunks: &mut Vec<Chunk>, gone: usize)
     chunks.truncate(left);
 }
 
-// Moves the chunks away from the front, and answers by how many places: half as many as there are chunks, as far as there is room, so that chunks put
-// in front one after another seldom move them. The free places hold copies of `chunk`.
-fn free_front(chunks: &mut Vec<Chunk>, chunk: Chunk) -> usize
-    requires { vec_len chunks.old < vec_capacity chunks.old }
-    ensures some { 1 ≤ result }
+// Makes room for `more` more chunks at the back, where the first `gone` chunks may go for it, and answers how many of those are left.
+fn make_room(chunks: &mut Vec<Chunk>, gone: usize, more: usize) -> usize
+    requires there { gone ≤ vec_len chunks.old }
+    requires room { vec_len chunks.old - gone + more ≤ vec_capacity chunks.old }
+    ensures room { vec_len chunks.new + more ≤ vec_capacity chunks.new }
+    ensures fits { result ≤ vec_len chunks.new }
+    ensures items { drop result chunks.new.items ≡ drop gone chunks.old.items }
+    ensures capacity { vec_capacity chunks.new ≡ vec_capacity chunks.old }
+{
+    if more <= chunks.capacity() - chunks.len() {
+        return gone;
+    }
+    move_up(chunks, gone);
+    0
+}
+
+// Appends these chunks, for which there is room.
+fn append_all(chunks: &mut Vec<Chunk>, part: &[Chunk])
+    requires { vec_len chunks.old + length part.now ≤ vec_capacity chunks.old }
+    ensures items { chunks.new.items ≡ chunks.old.items ++ part.now }
+    ensures capacity { vec_capacity chunks.new ≡ vec_capacity chunks.old }
+{
+    for k in 0..part.len() {
+        chunks.push_reserved(part[k]);
+    }
+}
+
+// Makes at least `count` free places in front of the chunks, where `gone` are free, and answers how many there are. Those that are new hold copies of
+// `chunk`.
+fn free_places(chunks: &mut Vec<Chunk>, gone: usize, count: usize, chunk: Chunk) -> usize
+    requires there { gone ≤ vec_len chunks.old }
+    requires room { vec_len chunks.old - gone + count ≤ vec_capacity chunks.old }
+    ensures enough { count ≤ result }
+    ensures fits { result ≤ vec_len chunks.new }
+    ensures items { drop result chunks.new.items ≡ drop gone chunks.old.items }
+    ensures capacity { vec_capacity chunks.new ≡ vec_capacity chunks.old }
+{
+    if count <= gone {
+        return gone;
+    }
+    gone + free_front(chunks, count - gone, chunk)
+}
+
+// Puts these chunks into the last of the `gone` free places in front.
+fn put_before(chunks: &mut Vec<Chunk>, gone: usize, part: &[Chunk])
+    requires there { gone ≤ vec_len chunks.old }
+    requires room { length part.now ≤ gone }
+    ensures len { vec_len chunks.new ≡ vec_len chunks.old }
+    ensures items { drop (gone - length part.now) chunks.new.items ≡ part.now ++ drop gone chunks.old.items }
+    ensures capacity { vec_capacity chunks.new ≡ vec_capacity chunks.old }
+{
+    chunks[gone - part.len()..gone].copy_from_slice(part);
+}
+
+// Moves the chunks away from the front, and answers by how many places: `least` or more, and half as many as there are chunks, as far as there is room,
+// so that chunks put in front one after another seldom move them. The free places hold copies of `chunk`.
+fn free_front(chunks: &mut Vec<Chunk>, least: usize, chunk: Chunk) -> usize
+    requires { vec_len chunks.old + least ≤ vec_capacity chunks.old }
+    ensures some { least ≤ result }
     ensures fits { result ≤ vec_len chunks.new }
     ensures items { drop result chunks.new.items ≡ chunks.old.items }
     ensures capacity { vec_capacity chunks.new ≡ vec_capacity chunks.old }
 {
     let len = chunks.len();
-    let places = (len / 2 + 1).min(chunks.capacity() - len);
+    let places = (len / 2 + 1).max(least).min(chunks.capacity() - len);
     for _ in 0..places {
         chunks.push_reserved(chunk);
     }

@@ -82,7 +82,7 @@ impl Chunks {
         self.last_end() > at
     }
 
-    // Moves chunks to `behind` until the last of `before` begins below byte index `at`.
+    // Moves the chunks to `behind` that begin at or past byte index `at`.
     fn part(&mut self, at: u128)
         requires rest { self.old.behind ≡ [] }
         requires rising { Rise 0 TOP self.old.before }
@@ -94,9 +94,8 @@ impl Chunks {
         ensures room { self.new.room ≡ self.old.room }
         ensures block_room { self.new.block_room ≡ self.old.block_room }
     {
-        while self.begins_from(at) {
-            self.step_back();
-        }
+        let count = self.begun(at);
+        self.leave(count);
     }
 
     // Splits the last chunk of `before` at byte index `at`, where it goes past it.
@@ -146,19 +145,6 @@ impl Chunks {
     {
         if self.goes_past(at) {
             self.cut_last(at);
-        }
-    }
-
-    // Moves `behind` to `before`.
-    fn join(&mut self)
-        ensures before { self.new.before ≡ self.old.before ++ self.old.behind }
-        ensures rest { self.new.behind ≡ [] }
-        ensures blocks { self.new.blocks ≡ self.old.blocks }
-        ensures room { self.new.room ≡ self.old.room }
-        ensures block_room { self.new.block_room ≡ self.old.block_room }
-    {
-        while self.has_behind() {
-            self.step_on();
         }
     }
 }

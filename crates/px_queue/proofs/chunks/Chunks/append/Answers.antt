@@ -11,9 +11,9 @@ use Rattle.px_queue.proofs.chunks.Chunks.append.Goals as goal
 pub grow-requires : goal.grow-requires
 grow-requires c =
     let s : Shelves = c.self.inside.shelf in
-    let items : List Laid = c.self.inside.before.items in
-    let ys : List Laid = c.self.inside.behind.items in
-    let xs : List Laid = c.pop_back.new.self.items in
+    let items : List Laid = c.self.inside.list.before in
+    let ys : List Laid = c.self.inside.list.behind in
+    let xs : List Laid = c.pop_back.new.self.before in
     let w : Laid = c.in-Some.last in
     let v : List Piece = c.args.self.now.before in
     let u : List Piece = c.args.self.now.behind in
@@ -27,9 +27,9 @@ grow-requires c =
 pub invariant_of-self-then-grow : goal.invariant_of-self-then-grow
 invariant_of-self-then-grow c =
     let s : Shelves = c.self.inside.shelf in
-    let items : List Laid = c.self.inside.before.items in
-    let ys : List Laid = c.self.inside.behind.items in
-    let xs : List Laid = c.pop_back.new.self.items in
+    let items : List Laid = c.self.inside.list.before in
+    let ys : List Laid = c.self.inside.list.behind in
+    let xs : List Laid = c.pop_back.new.self.before in
     let w : Laid = c.in-Some.last in
     let v : List Piece = c.args.self.now.before in
     let u : List Piece = c.args.self.now.behind in
@@ -47,16 +47,17 @@ invariant_of-self-then-grow c =
     let d : Laid = c.longer.result in
     let key : d.key ≡ w.key = ap (λ (x : Laid). x.key) c.longer.ensures in
     let on : IsOn t d = longer_on t w d (bytes_of (under s w.key)) more bytes whole c.longer.ensures in (
-      tied_whole t c.push_back_reserved.new.self.items xs ys d c.push_back_reserved.ensures.items (tied_other t xs ys w d (tied_grown s t (xs ++ w ∷ ys) w.key more tied there set) key on),
-      omega (arith, c.self.invariant.1, c.pop_back.ensures.capacity, c.push_back_reserved.ensures.capacity, ap length c.push_back_reserved.ensures.items, ap length split, length-append xs (w ∷ []), length-append xs (d ∷ [])),
+      subst (λ (zs : List Laid). IsTied t (c.push_back_reserved.new.self.before ++ zs)) (sym (c.push_back_reserved.ensures.behind ∙ c.pop_back.ensures.behind))
+          (tied_whole t c.push_back_reserved.new.self.before xs ys d c.push_back_reserved.ensures.items (tied_other t xs ys w d (tied_grown s t (xs ++ w ∷ ys) w.key more tied there set) key on)),
+      omega (arith, c.self.invariant.1, ap length (c.push_back_reserved.ensures.behind ∙ c.pop_back.ensures.behind), c.pop_back.ensures.capacity, c.push_back_reserved.ensures.capacity, ap length c.push_back_reserved.ensures.items, ap length split, length-append xs (w ∷ []), length-append xs (d ∷ [])),
     )
 
 pub returns-then-grow-clause-there : goal.returns-then-grow-clause-there
 returns-then-grow-clause-there c =
     let s : Shelves = c.self.inside.shelf in
-    let items : List Laid = c.self.inside.before.items in
-    let ys : List Laid = c.self.inside.behind.items in
-    let xs : List Laid = c.pop_back.new.self.items in
+    let items : List Laid = c.self.inside.list.before in
+    let ys : List Laid = c.self.inside.list.behind in
+    let xs : List Laid = c.pop_back.new.self.before in
     let w : Laid = c.in-Some.last in
     let v : List Piece = c.args.self.now.before in
     let u : List Piece = c.args.self.now.behind in
@@ -76,9 +77,9 @@ returns-then-grow-clause-there c =
 pub returns-then-grow-clause-yes : goal.returns-then-grow-clause-yes
 returns-then-grow-clause-yes c =
     let s : Shelves = c.self.inside.shelf in
-    let items : List Laid = c.self.inside.before.items in
-    let ys : List Laid = c.self.inside.behind.items in
-    let xs : List Laid = c.pop_back.new.self.items in
+    let items : List Laid = c.self.inside.list.before in
+    let ys : List Laid = c.self.inside.list.behind in
+    let xs : List Laid = c.pop_back.new.self.before in
     let w : Laid = c.in-Some.last in
     let v : List Piece = c.args.self.now.before in
     let u : List Piece = c.args.self.now.behind in
@@ -94,7 +95,7 @@ returns-then-grow-clause-yes c =
     let whole : w.place + w.len ≡ length (bytes_of (under s w.key)) = c.grow.ensures.whole c.if-grow.true in
     let ext : Extends s t (xs ++ w ∷ ys) = grown_extends s t (xs ++ w ∷ ys) w.key more tied there set in
     let d : Laid = c.longer.result in
-    λ _. more_map t c.push_back_reserved.new.self.items xs d c.push_back_reserved.ensures.items
+    λ _. more_map t c.push_back_reserved.new.self.before xs d c.push_back_reserved.ensures.items
     ∙ ap (λ (ps : List Piece). ps ++ piece_of t d ∷ []) (pieces_left s t xs (w ∷ ys) ext tied.on ∙ front_is s items xs w v is split)
     ∙ ap (λ (p : Piece). front_of v ++ p ∷ [])
     (ap (piece_of t) c.longer.ensures ∙ longer_piece s t w more bytes whole ∙ ap (λ (p : Piece). record { at = p.at; bytes = p.bytes ++ more }) (last_is s items xs w v is split))
@@ -102,9 +103,9 @@ returns-then-grow-clause-yes c =
 pub returns-then-grow-clause-behind : goal.returns-then-grow-clause-behind
 returns-then-grow-clause-behind c =
     let s : Shelves = c.self.inside.shelf in
-    let items : List Laid = c.self.inside.before.items in
-    let ys : List Laid = c.self.inside.behind.items in
-    let xs : List Laid = c.pop_back.new.self.items in
+    let items : List Laid = c.self.inside.list.before in
+    let ys : List Laid = c.self.inside.list.behind in
+    let xs : List Laid = c.pop_back.new.self.before in
     let w : Laid = c.in-Some.last in
     let v : List Piece = c.args.self.now.before in
     let u : List Piece = c.args.self.now.behind in
@@ -119,14 +120,14 @@ returns-then-grow-clause-behind c =
     let bytes : bytes_of (under t w.key) ≡ bytes_of (under s w.key) ++ more = grown_bytes s t (xs ++ w ∷ ys) w.key more tied there set in
     let whole : w.place + w.len ≡ length (bytes_of (under s w.key)) = c.grow.ensures.whole c.if-grow.true in
     let ext : Extends s t (xs ++ w ∷ ys) = grown_extends s t (xs ++ w ∷ ys) w.key more tied there set in
-    ap (drop 1) (pieces_right s t xs (w ∷ ys) ext tied.on) ∙ rest
+    ap (pieces_of t) (c.push_back_reserved.ensures.behind ∙ c.pop_back.ensures.behind) ∙ ap (drop 1) (pieces_right s t xs (w ∷ ys) ext tied.on) ∙ rest
 
 pub returns-then-grow-clause-blocks : goal.returns-then-grow-clause-blocks
 returns-then-grow-clause-blocks c =
     let s : Shelves = c.self.inside.shelf in
-    let items : List Laid = c.self.inside.before.items in
-    let ys : List Laid = c.self.inside.behind.items in
-    let xs : List Laid = c.pop_back.new.self.items in
+    let items : List Laid = c.self.inside.list.before in
+    let ys : List Laid = c.self.inside.list.behind in
+    let xs : List Laid = c.pop_back.new.self.before in
     let w : Laid = c.in-Some.last in
     let v : List Piece = c.args.self.now.before in
     let u : List Piece = c.args.self.now.behind in
@@ -146,9 +147,9 @@ returns-then-grow-clause-blocks c =
 pub invariant_of-self-2 : goal.invariant_of-self-2
 invariant_of-self-2 c =
     let s : Shelves = c.self.inside.shelf in
-    let items : List Laid = c.self.inside.before.items in
-    let ys : List Laid = c.self.inside.behind.items in
-    let xs : List Laid = c.pop_back.new.self.items in
+    let items : List Laid = c.self.inside.list.before in
+    let ys : List Laid = c.self.inside.list.behind in
+    let xs : List Laid = c.pop_back.new.self.before in
     let w : Laid = c.in-Some.last in
     let v : List Piece = c.args.self.now.before in
     let u : List Piece = c.args.self.now.behind in
@@ -160,16 +161,17 @@ invariant_of-self-2 c =
     let there : 1 ≤ references_to (under s w.key) = refs_here s xs ys w tied in
     let set : SetsOnly s t w.key (appended (under s w.key) []) = subst (λ (b : Bool). SetsOnly s t w.key (appended (under s w.key) (cond b c.args.bytes.now []))) c.if-grow.false c.grow.ensures.slots in
     let ext : Extends s t (xs ++ w ∷ ys) = grown_extends s t (xs ++ w ∷ ys) w.key [] tied there set in (
-      tied_whole t c.push_back_reserved-2.new.self.items xs ys w c.push_back_reserved-2.ensures.items (tied_grown s t (xs ++ w ∷ ys) w.key [] tied there set),
-      omega (arith, c.self.invariant.1, c.pop_back.ensures.capacity, c.push_back_reserved-2.ensures.capacity, ap length c.push_back_reserved-2.ensures.items, ap length split, length-append xs (w ∷ [])),
+      subst (λ (zs : List Laid). IsTied t (c.push_back_reserved-2.new.self.before ++ zs)) (sym (c.push_back_reserved-2.ensures.behind ∙ c.pop_back.ensures.behind))
+          (tied_whole t c.push_back_reserved-2.new.self.before xs ys w c.push_back_reserved-2.ensures.items (tied_grown s t (xs ++ w ∷ ys) w.key [] tied there set)),
+      omega (arith, c.self.invariant.1, ap length (c.push_back_reserved-2.ensures.behind ∙ c.pop_back.ensures.behind), c.pop_back.ensures.capacity, c.push_back_reserved-2.ensures.capacity, ap length c.push_back_reserved-2.ensures.items, ap length split, length-append xs (w ∷ [])),
     )
 
 pub returns-clause-no : goal.returns-clause-no
 returns-clause-no c =
     let s : Shelves = c.self.inside.shelf in
-    let items : List Laid = c.self.inside.before.items in
-    let ys : List Laid = c.self.inside.behind.items in
-    let xs : List Laid = c.pop_back.new.self.items in
+    let items : List Laid = c.self.inside.list.before in
+    let ys : List Laid = c.self.inside.list.behind in
+    let xs : List Laid = c.pop_back.new.self.before in
     let w : Laid = c.in-Some.last in
     let v : List Piece = c.args.self.now.before in
     let u : List Piece = c.args.self.now.behind in
@@ -181,7 +183,7 @@ returns-clause-no c =
     let there : 1 ≤ references_to (under s w.key) = refs_here s xs ys w tied in
     let set : SetsOnly s t w.key (appended (under s w.key) []) = subst (λ (b : Bool). SetsOnly s t w.key (appended (under s w.key) (cond b c.args.bytes.now []))) c.if-grow.false c.grow.ensures.slots in
     let ext : Extends s t (xs ++ w ∷ ys) = grown_extends s t (xs ++ w ∷ ys) w.key [] tied there set in
-    λ _. more_map t c.push_back_reserved-2.new.self.items xs w c.push_back_reserved-2.ensures.items
+    λ _. more_map t c.push_back_reserved-2.new.self.before xs w c.push_back_reserved-2.ensures.items
     ∙ ap (λ (ps : List Piece). ps ++ piece_of t w ∷ []) (pieces_left s t xs (w ∷ ys) ext tied.on)
     ∙ ap (λ (p : Piece). pieces_of s xs ++ p ∷ []) (ap (λ (ps : List Piece). slice_index_or ps 0 (piece_of s w)) (pieces_right s t xs (w ∷ ys) ext tied.on))
     ∙ sym (more_map s items xs w split) ∙ is
@@ -189,9 +191,9 @@ returns-clause-no c =
 pub returns-clause-behind : goal.returns-clause-behind
 returns-clause-behind c =
     let s : Shelves = c.self.inside.shelf in
-    let items : List Laid = c.self.inside.before.items in
-    let ys : List Laid = c.self.inside.behind.items in
-    let xs : List Laid = c.pop_back.new.self.items in
+    let items : List Laid = c.self.inside.list.before in
+    let ys : List Laid = c.self.inside.list.behind in
+    let xs : List Laid = c.pop_back.new.self.before in
     let w : Laid = c.in-Some.last in
     let v : List Piece = c.args.self.now.before in
     let u : List Piece = c.args.self.now.behind in
@@ -203,14 +205,14 @@ returns-clause-behind c =
     let there : 1 ≤ references_to (under s w.key) = refs_here s xs ys w tied in
     let set : SetsOnly s t w.key (appended (under s w.key) []) = subst (λ (b : Bool). SetsOnly s t w.key (appended (under s w.key) (cond b c.args.bytes.now []))) c.if-grow.false c.grow.ensures.slots in
     let ext : Extends s t (xs ++ w ∷ ys) = grown_extends s t (xs ++ w ∷ ys) w.key [] tied there set in
-    ap (drop 1) (pieces_right s t xs (w ∷ ys) ext tied.on) ∙ rest
+    ap (pieces_of t) (c.push_back_reserved-2.ensures.behind ∙ c.pop_back.ensures.behind) ∙ ap (drop 1) (pieces_right s t xs (w ∷ ys) ext tied.on) ∙ rest
 
 pub returns-clause-blocks : goal.returns-clause-blocks
 returns-clause-blocks c =
     let s : Shelves = c.self.inside.shelf in
-    let items : List Laid = c.self.inside.before.items in
-    let ys : List Laid = c.self.inside.behind.items in
-    let xs : List Laid = c.pop_back.new.self.items in
+    let items : List Laid = c.self.inside.list.before in
+    let ys : List Laid = c.self.inside.list.behind in
+    let xs : List Laid = c.pop_back.new.self.before in
     let w : Laid = c.in-Some.last in
     let v : List Piece = c.args.self.now.before in
     let u : List Piece = c.args.self.now.behind in

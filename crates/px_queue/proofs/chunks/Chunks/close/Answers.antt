@@ -9,8 +9,8 @@ pub invariant_of-self : goal.invariant_of-self
 invariant_of-self c =
     let s : Shelves = c.self.inside.shelf in
     let t : Shelves = c.fit.new.self in
-    let items : List Laid = c.self.inside.before.items in
-    let ys : List Laid = c.self.inside.behind.items in
+    let items : List Laid = c.self.inside.list.before in
+    let ys : List Laid = c.self.inside.list.behind in
     let same_all : (k : ℕ) → under t k ≡ under s k = under_same s t c.in-Some.key c.fit.ensures.slots in
     let tied = c.self.invariant.0 in
     let ext : Extends s t (items ++ ys) = λ k some. unchanged_extends s t k (same_all k) in
@@ -20,8 +20,8 @@ pub returns-in-Some : goal.returns-in-Some
 returns-in-Some c =
     let s : Shelves = c.self.inside.shelf in
     let t : Shelves = c.fit.new.self in
-    let items : List Laid = c.self.inside.before.items in
-    let ys : List Laid = c.self.inside.behind.items in
+    let items : List Laid = c.self.inside.list.before in
+    let ys : List Laid = c.self.inside.list.behind in
     let same_all : (k : ℕ) → under t k ≡ under s k = under_same s t c.in-Some.key c.fit.ensures.slots in
     let tied = c.self.invariant.0 in
     let ext : Extends s t (items ++ ys) = λ k some. unchanged_extends s t k (same_all k) in

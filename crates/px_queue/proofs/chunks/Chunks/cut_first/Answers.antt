@@ -11,9 +11,9 @@ use Rattle.px_queue.proofs.chunks.Chunks.cut_first.Goals as goal
 pub tail-requires-clause-from : goal.tail-requires-clause-from
 tail-requires-clause-from c =
     let s : Shelves = c.self.inside.shelf in
-    let items : List Laid = c.self.inside.before.items in
-    let ys : List Laid = c.self.inside.behind.items in
-    let xs : List Laid = c.pop_front.new.self.items in
+    let items : List Laid = c.self.inside.list.before in
+    let ys : List Laid = c.self.inside.list.behind in
+    let xs : List Laid = c.pop_front.new.self.before in
     let w : Laid = c.unwrap-first.result in
     let v : List Piece = c.args.self.now.before in
     let u : List Piece = c.args.self.now.behind in
@@ -31,9 +31,9 @@ tail-requires-clause-from c =
 pub tail-requires-clause-to : goal.tail-requires-clause-to
 tail-requires-clause-to c =
     let s : Shelves = c.self.inside.shelf in
-    let items : List Laid = c.self.inside.before.items in
-    let ys : List Laid = c.self.inside.behind.items in
-    let xs : List Laid = c.pop_front.new.self.items in
+    let items : List Laid = c.self.inside.list.before in
+    let ys : List Laid = c.self.inside.list.behind in
+    let xs : List Laid = c.pop_front.new.self.before in
     let w : Laid = c.unwrap-first.result in
     let v : List Piece = c.args.self.now.before in
     let u : List Piece = c.args.self.now.behind in
@@ -51,9 +51,9 @@ tail-requires-clause-to c =
 pub invariant_of-self : goal.invariant_of-self
 invariant_of-self c =
     let s : Shelves = c.self.inside.shelf in
-    let items : List Laid = c.self.inside.before.items in
-    let ys : List Laid = c.self.inside.behind.items in
-    let xs : List Laid = c.pop_front.new.self.items in
+    let items : List Laid = c.self.inside.list.before in
+    let ys : List Laid = c.self.inside.list.behind in
+    let xs : List Laid = c.pop_front.new.self.before in
     let w : Laid = c.unwrap-first.result in
     let v : List Piece = c.args.self.now.before in
     let u : List Piece = c.args.self.now.behind in
@@ -70,17 +70,19 @@ invariant_of-self c =
     let len : d.len ≡ w.len - (c.args.from - w.at) = ap (λ (x : Laid). x.len) c.tail.ensures in
     let place : d.place ≡ w.place + (c.args.from - w.at) = ap (λ (x : Laid). x.place) c.tail.ensures in
     let key : d.key ≡ w.key = ap (λ (x : Laid). x.key) c.tail.ensures in
+    let after : c.push_front_reserved.new.self.behind ≡ ys = c.push_front_reserved.ensures.behind ∙ c.pop_front.ensures.behind in
     let on_d : IsOn s d = subst (λ (k : ℕ). d.place + d.len ≤ length (bytes_of (under s k))) (sym key) (omega arith) in (
-      subst (λ (zs : List Laid). IsTied s (zs ++ ys)) (sym c.push_front_reserved.ensures.items) (tied_other s [] (xs ++ ys) w d tied key on_d),
-      omega (arith, c.self.invariant.1, c.pop_front.ensures.capacity, c.push_front_reserved.ensures.capacity, ap length c.push_front_reserved.ensures.items, ap length split),
+      subst (λ (zs : List Laid). IsTied s (c.push_front_reserved.new.self.before ++ zs)) (sym after)
+          (subst (λ (zs : List Laid). IsTied s (zs ++ ys)) (sym c.push_front_reserved.ensures.items) (tied_other s [] (xs ++ ys) w d tied key on_d)),
+      omega (arith, c.self.invariant.1, ap length after, c.pop_front.ensures.capacity, c.push_front_reserved.ensures.capacity, ap length c.push_front_reserved.ensures.items, ap length split),
     )
 
 pub returns-clause-before : goal.returns-clause-before
 returns-clause-before c =
     let s : Shelves = c.self.inside.shelf in
-    let items : List Laid = c.self.inside.before.items in
-    let ys : List Laid = c.self.inside.behind.items in
-    let xs : List Laid = c.pop_front.new.self.items in
+    let items : List Laid = c.self.inside.list.before in
+    let ys : List Laid = c.self.inside.list.behind in
+    let xs : List Laid = c.pop_front.new.self.before in
     let w : Laid = c.unwrap-first.result in
     let v : List Piece = c.args.self.now.before in
     let u : List Piece = c.args.self.now.behind in
@@ -97,3 +99,7 @@ returns-clause-before c =
     ap (pieces_of s) c.push_front_reserved.ensures.items
     ∙ ap (λ (ps : List Piece). piece_of s c.tail.result ∷ ps) (rest_is s items xs w v is split)
     ∙ ap (λ (p : Piece). p ∷ drop 1 v) (ap (piece_of s) c.tail.ensures ∙ tail_piece s w c.args.from from fits ∙ ap (λ (p : Piece). tail_from p c.args.from) (first_is s items xs w v d is split))
+
+pub returns-clause-behind : goal.returns-clause-behind
+returns-clause-behind c =
+    ap (pieces_of c.self.inside.shelf) (c.push_front_reserved.ensures.behind ∙ c.pop_front.ensures.behind) ∙ ap (λ (k : Chunked). k.behind) c.self.view_is

@@ -10,9 +10,9 @@ use Rattle.px_queue.proofs.chunks.Chunks.cut_last.Goals as goal
 pub head-requires-clause-from : goal.head-requires-clause-from
 head-requires-clause-from c =
     let s : Shelves = c.self.inside.shelf in
-    let items : List Laid = c.self.inside.before.items in
-    let ys : List Laid = c.self.inside.behind.items in
-    let xs : List Laid = c.pop_back.new.self.items in
+    let items : List Laid = c.self.inside.list.before in
+    let ys : List Laid = c.self.inside.list.behind in
+    let xs : List Laid = c.pop_back.new.self.before in
     let w : Laid = c.unwrap-last.result in
     let v : List Piece = c.args.self.now.before in
     let u : List Piece = c.args.self.now.behind in
@@ -26,9 +26,9 @@ head-requires-clause-from c =
 pub head-requires-clause-to : goal.head-requires-clause-to
 head-requires-clause-to c =
     let s : Shelves = c.self.inside.shelf in
-    let items : List Laid = c.self.inside.before.items in
-    let ys : List Laid = c.self.inside.behind.items in
-    let xs : List Laid = c.pop_back.new.self.items in
+    let items : List Laid = c.self.inside.list.before in
+    let ys : List Laid = c.self.inside.list.behind in
+    let xs : List Laid = c.pop_back.new.self.before in
     let w : Laid = c.unwrap-last.result in
     let v : List Piece = c.args.self.now.before in
     let u : List Piece = c.args.self.now.behind in
@@ -42,9 +42,9 @@ head-requires-clause-to c =
 pub invariant_of-self : goal.invariant_of-self
 invariant_of-self c =
     let s : Shelves = c.self.inside.shelf in
-    let items : List Laid = c.self.inside.before.items in
-    let ys : List Laid = c.self.inside.behind.items in
-    let xs : List Laid = c.pop_back.new.self.items in
+    let items : List Laid = c.self.inside.list.before in
+    let ys : List Laid = c.self.inside.list.behind in
+    let xs : List Laid = c.pop_back.new.self.before in
     let w : Laid = c.unwrap-last.result in
     let v : List Piece = c.args.self.now.before in
     let u : List Piece = c.args.self.now.behind in
@@ -59,17 +59,19 @@ invariant_of-self c =
     let place : d.place ≡ w.place = ap (λ (x : Laid). x.place) c.head.ensures in
     let on : IsOn s w = here_on s xs ys w tied in
     let key : d.key ≡ w.key = ap (λ (x : Laid). x.key) c.head.ensures in
+    let after : c.push_back_reserved.new.self.behind ≡ ys = c.push_back_reserved.ensures.behind ∙ c.pop_back.ensures.behind in
     let on_d : IsOn s d = subst (λ (k : ℕ). d.place + d.len ≤ length (bytes_of (under s k))) (sym key) (omega arith) in (
-      tied_whole s c.push_back_reserved.new.self.items xs ys d c.push_back_reserved.ensures.items (tied_other s xs ys w d tied key on_d),
-      omega (arith, c.self.invariant.1, c.pop_back.ensures.capacity, c.push_back_reserved.ensures.capacity, ap length c.push_back_reserved.ensures.items, ap length split, length-append xs (w ∷ []), length-append xs (c.head.result ∷ [])),
+      subst (λ (zs : List Laid). IsTied s (c.push_back_reserved.new.self.before ++ zs)) (sym after)
+          (tied_whole s c.push_back_reserved.new.self.before xs ys d c.push_back_reserved.ensures.items (tied_other s xs ys w d tied key on_d)),
+      omega (arith, c.self.invariant.1, ap length after, c.pop_back.ensures.capacity, c.push_back_reserved.ensures.capacity, ap length c.push_back_reserved.ensures.items, ap length split, length-append xs (w ∷ []), length-append xs (c.head.result ∷ [])),
     )
 
 pub returns-clause-before : goal.returns-clause-before
 returns-clause-before c =
     let s : Shelves = c.self.inside.shelf in
-    let items : List Laid = c.self.inside.before.items in
-    let ys : List Laid = c.self.inside.behind.items in
-    let xs : List Laid = c.pop_back.new.self.items in
+    let items : List Laid = c.self.inside.list.before in
+    let ys : List Laid = c.self.inside.list.behind in
+    let xs : List Laid = c.pop_back.new.self.before in
     let w : Laid = c.unwrap-last.result in
     let v : List Piece = c.args.self.now.before in
     let u : List Piece = c.args.self.now.behind in
@@ -79,7 +81,11 @@ returns-clause-before c =
     let from : w.at ≤ c.args.to = omega (arith, last_at s items xs w v is split, c.requires.from) in
     let fits : c.args.to ≤ w.at + w.len = omega (arith, last_end_at s items xs ys w v is split c.self.invariant.0, c.requires.to) in
     let d : Laid = c.head.result in
-    more_map s c.push_back_reserved.new.self.items xs d c.push_back_reserved.ensures.items
+    more_map s c.push_back_reserved.new.self.before xs d c.push_back_reserved.ensures.items
     ∙ ap (λ (ps : List Piece). ps ++ piece_of s d ∷ []) (front_is s items xs w v is split)
     ∙ ap (λ (p : Piece). front_of v ++ p ∷ [])
     (ap (piece_of s) c.head.ensures ∙ head_piece s w c.args.to fits ∙ ap (λ (p : Piece). head_to p c.args.to) (last_is s items xs w v is split))
+
+pub returns-clause-behind : goal.returns-clause-behind
+returns-clause-behind c =
+    ap (pieces_of c.self.inside.shelf) (c.push_back_reserved.ensures.behind ∙ c.pop_back.ensures.behind) ∙ ap (λ (k : Chunked). k.behind) c.self.view_is

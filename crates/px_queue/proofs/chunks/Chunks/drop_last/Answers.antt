@@ -10,9 +10,9 @@ use Rattle.px_queue.proofs.chunks.Chunks.drop_last.Goals as goal
 pub let_go-requires : goal.let_go-requires
 let_go-requires g c =
     let s : Shelves = c.self.inside.shelf in
-    let items : List Laid = c.self.inside.before.items in
-    let ys : List Laid = c.self.inside.behind.items in
-    let xs : List Laid = c.pop_back.new.self.items in
+    let items : List Laid = c.self.inside.list.before in
+    let ys : List Laid = c.self.inside.list.behind in
+    let xs : List Laid = c.pop_back.new.self.before in
     let w : Laid = c.unwrap-last.result in
     let v : List Piece = c.args.self.now.before in
     let u : List Piece = c.args.self.now.behind in
@@ -25,9 +25,9 @@ let_go-requires g c =
 pub invariant_of-self : goal.invariant_of-self
 invariant_of-self g c =
     let s : Shelves = c.self.inside.shelf in
-    let items : List Laid = c.self.inside.before.items in
-    let ys : List Laid = c.self.inside.behind.items in
-    let xs : List Laid = c.pop_back.new.self.items in
+    let items : List Laid = c.self.inside.list.before in
+    let ys : List Laid = c.self.inside.list.behind in
+    let xs : List Laid = c.pop_back.new.self.before in
     let w : Laid = c.unwrap-last.result in
     let v : List Piece = c.args.self.now.before in
     let u : List Piece = c.args.self.now.behind in
@@ -37,14 +37,14 @@ invariant_of-self g c =
     let tied : IsTied s (xs ++ w ∷ ys) = tied_middle s items xs ys w split c.self.invariant.0 in
     let t : Shelves = c.let_go.new.shelf in
     let set : SetsOnly s t w.key (released (under s w.key)) = subst (λ (k : ℕ). SetsOnly s t k (released (under s k))) c.key.ensures c.let_go.ensures.slots in
-    (tied_less s t xs ys w tied set, omega (arith, c.self.invariant.1, c.pop_back.ensures.capacity, ap length split, length-append xs (w ∷ [])))
+    (subst (λ (zs : List Laid). IsTied t (xs ++ zs)) (sym c.pop_back.ensures.behind) (tied_less s t xs ys w tied set), omega (arith, c.self.invariant.1, ap length c.pop_back.ensures.behind, c.pop_back.ensures.capacity, ap length split, length-append xs (w ∷ [])))
 
 pub returns-clause-before : goal.returns-clause-before
 returns-clause-before g c =
     let s : Shelves = c.self.inside.shelf in
-    let items : List Laid = c.self.inside.before.items in
-    let ys : List Laid = c.self.inside.behind.items in
-    let xs : List Laid = c.pop_back.new.self.items in
+    let items : List Laid = c.self.inside.list.before in
+    let ys : List Laid = c.self.inside.list.behind in
+    let xs : List Laid = c.pop_back.new.self.before in
     let w : Laid = c.unwrap-last.result in
     let v : List Piece = c.args.self.now.before in
     let u : List Piece = c.args.self.now.behind in
@@ -59,9 +59,9 @@ returns-clause-before g c =
 pub returns-clause-behind : goal.returns-clause-behind
 returns-clause-behind g c =
     let s : Shelves = c.self.inside.shelf in
-    let items : List Laid = c.self.inside.before.items in
-    let ys : List Laid = c.self.inside.behind.items in
-    let xs : List Laid = c.pop_back.new.self.items in
+    let items : List Laid = c.self.inside.list.before in
+    let ys : List Laid = c.self.inside.list.behind in
+    let xs : List Laid = c.pop_back.new.self.before in
     let w : Laid = c.unwrap-last.result in
     let v : List Piece = c.args.self.now.before in
     let u : List Piece = c.args.self.now.behind in
@@ -71,4 +71,4 @@ returns-clause-behind g c =
     let tied : IsTied s (xs ++ w ∷ ys) = tied_middle s items xs ys w split c.self.invariant.0 in
     let t : Shelves = c.let_go.new.shelf in
     let set : SetsOnly s t w.key (released (under s w.key)) = subst (λ (k : ℕ). SetsOnly s t k (released (under s k))) c.key.ensures c.let_go.ensures.slots in
-    less_right s t xs ys w tied set ∙ rest
+    ap (pieces_of t) c.pop_back.ensures.behind ∙ less_right s t xs ys w tied set ∙ rest

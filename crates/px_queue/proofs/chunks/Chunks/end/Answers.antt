@@ -10,8 +10,8 @@ use Rattle.px_queue.proofs.chunks.Chunks.end.Goals as goal
 pub returns-clause-value : goal.returns-clause-value
 returns-clause-value c =
     let s : Shelves = c.self.inside.shelf in
-    let items : List Laid = c.self.inside.before.items in
-    let ys : List Laid = c.self.inside.behind.items in
+    let items : List Laid = c.self.inside.list.before in
+    let ys : List Laid = c.self.inside.list.behind in
     let v : List Piece = c.args.self.now.before in
     let is : pieces_of s items ≡ v = ap (λ (k : Chunked). k.before) c.self.view_is in
     let w : Laid = c.get.result in

@@ -10,8 +10,8 @@ use Rattle.px_queue.proofs.chunks.Chunks.open.Goals as goal
 pub len_of-requires : goal.len_of-requires
 len_of-requires c =
     let s : Shelves = c.self.inside.shelf in
-    let items : List Laid = c.self.inside.before.items in
-    let ys : List Laid = c.self.inside.behind.items in
+    let items : List Laid = c.self.inside.list.before in
+    let ys : List Laid = c.self.inside.list.behind in
     let v : List Piece = c.args.self.now.before in
     let is : pieces_of s items ≡ v = ap (λ (k : Chunked). k.before) c.self.view_is in
     let w : Laid = c.get-chunk.result in
@@ -22,8 +22,8 @@ len_of-requires c =
 pub open-requires : goal.open-requires
 open-requires c =
     let s : Shelves = c.self.inside.shelf in
-    let items : List Laid = c.self.inside.before.items in
-    let ys : List Laid = c.self.inside.behind.items in
+    let items : List Laid = c.self.inside.list.before in
+    let ys : List Laid = c.self.inside.list.behind in
     let v : List Piece = c.args.self.now.before in
     let is : pieces_of s items ≡ v = ap (λ (k : Chunked). k.before) c.self.view_is in
     let w : Laid = c.get-chunk.result in
@@ -34,8 +34,8 @@ open-requires c =
 pub invariant_of-self : goal.invariant_of-self
 invariant_of-self c =
     let s : Shelves = c.self.inside.shelf in
-    let items : List Laid = c.self.inside.before.items in
-    let ys : List Laid = c.self.inside.behind.items in
+    let items : List Laid = c.self.inside.list.before in
+    let ys : List Laid = c.self.inside.list.behind in
     let v : List Piece = c.args.self.now.before in
     let is : pieces_of s items ≡ v = ap (λ (k : Chunked). k.before) c.self.view_is in
     let w : Laid = c.get-chunk.result in
@@ -50,8 +50,8 @@ invariant_of-self c =
 pub returns : goal.returns
 returns c =
     let s : Shelves = c.self.inside.shelf in
-    let items : List Laid = c.self.inside.before.items in
-    let ys : List Laid = c.self.inside.behind.items in
+    let items : List Laid = c.self.inside.list.before in
+    let ys : List Laid = c.self.inside.list.behind in
     let v : List Piece = c.args.self.now.before in
     let is : pieces_of s items ≡ v = ap (λ (k : Chunked). k.before) c.self.view_is in
     let w : Laid = c.get-chunk.result in

@@ -11,9 +11,9 @@ use Rattle.px_queue.proofs.chunks.Chunks.split_last.Goals as goal
 pub retain-requires-clause-there : goal.retain-requires-clause-there
 retain-requires-clause-there c =
     let s : Shelves = c.self.inside.shelf in
-    let items : List Laid = c.self.inside.before.items in
-    let ys : List Laid = c.self.inside.behind.items in
-    let xs : List Laid = c.pop_back.new.self.items in
+    let items : List Laid = c.self.inside.list.before in
+    let ys : List Laid = c.self.inside.list.behind in
+    let xs : List Laid = c.pop_back.new.self.before in
     let w : Laid = c.unwrap-last.result in
     let v : List Piece = c.args.self.now.before in
     let u : List Piece = c.args.self.now.behind in
@@ -26,9 +26,9 @@ retain-requires-clause-there c =
 pub retain-requires-clause-countable : goal.retain-requires-clause-countable
 retain-requires-clause-countable c =
     let s : Shelves = c.self.inside.shelf in
-    let items : List Laid = c.self.inside.before.items in
-    let ys : List Laid = c.self.inside.behind.items in
-    let xs : List Laid = c.pop_back.new.self.items in
+    let items : List Laid = c.self.inside.list.before in
+    let ys : List Laid = c.self.inside.list.behind in
+    let xs : List Laid = c.pop_back.new.self.before in
     let w : Laid = c.unwrap-last.result in
     let v : List Piece = c.args.self.now.before in
     let u : List Piece = c.args.self.now.behind in
@@ -40,9 +40,9 @@ retain-requires-clause-countable c =
 pub head-requires-clause-from : goal.head-requires-clause-from
 head-requires-clause-from c =
     let s : Shelves = c.self.inside.shelf in
-    let items : List Laid = c.self.inside.before.items in
-    let ys : List Laid = c.self.inside.behind.items in
-    let xs : List Laid = c.pop_back.new.self.items in
+    let items : List Laid = c.self.inside.list.before in
+    let ys : List Laid = c.self.inside.list.behind in
+    let xs : List Laid = c.pop_back.new.self.before in
     let w : Laid = c.unwrap-last.result in
     let v : List Piece = c.args.self.now.before in
     let u : List Piece = c.args.self.now.behind in
@@ -56,9 +56,9 @@ head-requires-clause-from c =
 pub head-requires-clause-to : goal.head-requires-clause-to
 head-requires-clause-to c =
     let s : Shelves = c.self.inside.shelf in
-    let items : List Laid = c.self.inside.before.items in
-    let ys : List Laid = c.self.inside.behind.items in
-    let xs : List Laid = c.pop_back.new.self.items in
+    let items : List Laid = c.self.inside.list.before in
+    let ys : List Laid = c.self.inside.list.behind in
+    let xs : List Laid = c.pop_back.new.self.before in
     let w : Laid = c.unwrap-last.result in
     let v : List Piece = c.args.self.now.before in
     let u : List Piece = c.args.self.now.behind in
@@ -72,9 +72,9 @@ head-requires-clause-to c =
 pub tail-requires-clause-from : goal.tail-requires-clause-from
 tail-requires-clause-from c =
     let s : Shelves = c.self.inside.shelf in
-    let items : List Laid = c.self.inside.before.items in
-    let ys : List Laid = c.self.inside.behind.items in
-    let xs : List Laid = c.pop_back.new.self.items in
+    let items : List Laid = c.self.inside.list.before in
+    let ys : List Laid = c.self.inside.list.behind in
+    let xs : List Laid = c.pop_back.new.self.before in
     let w : Laid = c.unwrap-last.result in
     let v : List Piece = c.args.self.now.before in
     let u : List Piece = c.args.self.now.behind in
@@ -88,9 +88,9 @@ tail-requires-clause-from c =
 pub tail-requires-clause-to : goal.tail-requires-clause-to
 tail-requires-clause-to c =
     let s : Shelves = c.self.inside.shelf in
-    let items : List Laid = c.self.inside.before.items in
-    let ys : List Laid = c.self.inside.behind.items in
-    let xs : List Laid = c.pop_back.new.self.items in
+    let items : List Laid = c.self.inside.list.before in
+    let ys : List Laid = c.self.inside.list.behind in
+    let xs : List Laid = c.pop_back.new.self.before in
     let w : Laid = c.unwrap-last.result in
     let v : List Piece = c.args.self.now.before in
     let u : List Piece = c.args.self.now.behind in
@@ -104,9 +104,9 @@ tail-requires-clause-to c =
 pub invariant_of-self : goal.invariant_of-self
 invariant_of-self c =
     let s : Shelves = c.self.inside.shelf in
-    let items : List Laid = c.self.inside.before.items in
-    let ys : List Laid = c.self.inside.behind.items in
-    let xs : List Laid = c.pop_back.new.self.items in
+    let items : List Laid = c.self.inside.list.before in
+    let ys : List Laid = c.self.inside.list.behind in
+    let xs : List Laid = c.pop_back.new.self.before in
     let w : Laid = c.unwrap-last.result in
     let v : List Piece = c.args.self.now.before in
     let u : List Piece = c.args.self.now.behind in
@@ -127,19 +127,22 @@ invariant_of-self c =
     let place_l : l.place ≡ w.place = ap (λ (x : Laid). x.place) c.head.ensures in
     let len_r : r.len ≡ w.len - (c.args.at - w.at) = ap (λ (x : Laid). x.len) c.tail.ensures in
     let place_r : r.place ≡ w.place + (c.args.at - w.at) = ap (λ (x : Laid). x.place) c.tail.ensures in
+    let after : c.push_behind_reserved.new.self.behind ≡ r ∷ ys = c.push_behind_reserved.ensures.items ∙ ap (λ (zs : List Laid). r ∷ zs) (c.push_back_reserved.ensures.behind ∙ c.pop_back.ensures.behind) in
+    let parts : c.push_behind_reserved.new.self.before ++ c.push_behind_reserved.new.self.behind ≡ c.push_back_reserved.new.self.before ++ (r ∷ ys) =
+    ap (λ (zs : List Laid). zs ++ c.push_behind_reserved.new.self.behind) c.push_behind_reserved.ensures.before ∙ ap (λ (zs : List Laid). c.push_back_reserved.new.self.before ++ zs) after in
     let on_l : IsOn s l = subst (λ (k : ℕ). l.place + l.len ≤ length (bytes_of (under s k))) (sym left) (omega arith) in
     let on_r : IsOn s r = subst (λ (k : ℕ). r.place + r.len ≤ length (bytes_of (under s k))) (sym right) (omega arith) in (
-      subst (λ (zs : List Laid). IsTied t (c.push_back_reserved.new.self.items ++ zs)) (sym c.push_front_reserved.ensures.items)
-          (tied_whole t c.push_back_reserved.new.self.items xs (r ∷ ys) l c.push_back_reserved.ensures.items (tied_split s t xs ys w l r tied set left right on_l on_r)),
-      omega (arith, c.self.invariant.1, ap (λ (k : Chunked). k.room) c.self.view_is, c.requires.room, c.pop_back.ensures.capacity, c.push_back_reserved.ensures.capacity, ap length c.push_back_reserved.ensures.items, c.push_front_reserved.ensures.capacity, ap length c.push_front_reserved.ensures.items, ap length split, length-append xs (w ∷ []), length-append xs (c.head.result ∷ [])),
+      subst (IsTied t) (sym parts)
+          (tied_whole t c.push_back_reserved.new.self.before xs (r ∷ ys) l c.push_back_reserved.ensures.items (tied_split s t xs ys w l r tied set left right on_l on_r)),
+      omega (arith, c.self.invariant.1, ap length after, ap length c.push_behind_reserved.ensures.before, ap (λ (k : Chunked). k.room) c.self.view_is, c.requires.room, c.pop_back.ensures.capacity, c.push_back_reserved.ensures.capacity, ap length c.push_back_reserved.ensures.items, c.push_behind_reserved.ensures.capacity, ap length c.push_behind_reserved.ensures.items, ap length split, length-append xs (w ∷ []), length-append xs (c.head.result ∷ [])),
     )
 
 pub returns-clause-before : goal.returns-clause-before
 returns-clause-before c =
     let s : Shelves = c.self.inside.shelf in
-    let items : List Laid = c.self.inside.before.items in
-    let ys : List Laid = c.self.inside.behind.items in
-    let xs : List Laid = c.pop_back.new.self.items in
+    let items : List Laid = c.self.inside.list.before in
+    let ys : List Laid = c.self.inside.list.behind in
+    let xs : List Laid = c.pop_back.new.self.before in
     let w : Laid = c.unwrap-last.result in
     let v : List Piece = c.args.self.now.before in
     let u : List Piece = c.args.self.now.behind in
@@ -155,7 +158,7 @@ returns-clause-before c =
     let r : Laid = c.tail.result in
     let left : l.key ≡ w.key = ap (λ (x : Laid). x.key) c.head.ensures in
     let right : r.key ≡ w.key = ap (λ (x : Laid). x.key) c.tail.ensures in
-    more_map t c.push_back_reserved.new.self.items xs l c.push_back_reserved.ensures.items
+    ap (pieces_of t) c.push_behind_reserved.ensures.before ∙ more_map t c.push_back_reserved.new.self.before xs l c.push_back_reserved.ensures.items
     ∙ ap (λ (ps : List Piece). ps ++ piece_of t l ∷ []) (split_left s t xs ys w l r tied set left right ∙ front_is s items xs w v is split)
     ∙ ap (λ (p : Piece). front_of v ++ p ∷ [])
     (split_here s t xs ys w l r tied set left right ∙ ap (piece_of s) c.head.ensures ∙ head_piece s w c.args.at fits ∙ ap (λ (p : Piece). head_to p c.args.at) (last_is s items xs w v is split))
@@ -163,9 +166,9 @@ returns-clause-before c =
 pub returns-clause-behind : goal.returns-clause-behind
 returns-clause-behind c =
     let s : Shelves = c.self.inside.shelf in
-    let items : List Laid = c.self.inside.before.items in
-    let ys : List Laid = c.self.inside.behind.items in
-    let xs : List Laid = c.pop_back.new.self.items in
+    let items : List Laid = c.self.inside.list.before in
+    let ys : List Laid = c.self.inside.list.behind in
+    let xs : List Laid = c.pop_back.new.self.before in
     let w : Laid = c.unwrap-last.result in
     let v : List Piece = c.args.self.now.before in
     let u : List Piece = c.args.self.now.behind in
@@ -181,7 +184,7 @@ returns-clause-behind c =
     let r : Laid = c.tail.result in
     let left : l.key ≡ w.key = ap (λ (x : Laid). x.key) c.head.ensures in
     let right : r.key ≡ w.key = ap (λ (x : Laid). x.key) c.tail.ensures in
-    ap (pieces_of t) c.push_front_reserved.ensures.items
+    ap (pieces_of t) (c.push_behind_reserved.ensures.items ∙ ap (λ (zs : List Laid). r ∷ zs) (c.push_back_reserved.ensures.behind ∙ c.pop_back.ensures.behind))
     ∙ ap (λ (ps : List Piece). piece_of t r ∷ ps) (split_right s t xs ys w l r tied set left right ∙ rest)
     ∙ ap (λ (p : Piece). p ∷ u)
     (split_there s t xs ys w l r tied set left right ∙ ap (piece_of s) c.tail.ensures ∙ tail_piece s w c.args.at from fits ∙ ap (λ (p : Piece). tail_from p c.args.at) (last_is s items xs w v is split))
@@ -189,9 +192,9 @@ returns-clause-behind c =
 pub returns-clause-blocks : goal.returns-clause-blocks
 returns-clause-blocks c =
     let s : Shelves = c.self.inside.shelf in
-    let items : List Laid = c.self.inside.before.items in
-    let ys : List Laid = c.self.inside.behind.items in
-    let xs : List Laid = c.pop_back.new.self.items in
+    let items : List Laid = c.self.inside.list.before in
+    let ys : List Laid = c.self.inside.list.behind in
+    let xs : List Laid = c.pop_back.new.self.before in
     let w : Laid = c.unwrap-last.result in
     let v : List Piece = c.args.self.now.before in
     let u : List Piece = c.args.self.now.behind in
