@@ -1,7 +1,7 @@
 -- Bytes and frames of a buffer that begins at frame c and ends at frame f, each frame of w bytes.
-use Rattle.std.proofs.Common.{◌≡◌, ℕ, ◌+◌, ◌-◌, ◌*◌, ◌/◌, ◌≤◌, min, List, ◌++◌, length, take, drop, ap, ◌∙◌, arith, length-append, length-drop, Option, None, Some}
+use Rattle.std.proofs.Common.{◌≡◌, ℕ, ◌+◌, ◌-◌, ◌*◌, ◌/◌, ◌≤◌, min, List, ◌++◌, length, take, drop, ap, ◌∙◌, arith, length-append, length-drop, length-take, Option, None, Some}
 use Rattle.std.proofs.Math.Nat.{add-mul, mul-le-mul_right, mul-div_cancel}
-use Rattle.std.proofs.lemmas.List.{length-take-le}
+use Rattle.std.proofs.lemmas.List.{length-take-le, drop-append-le, drop-take}
 use Rattle.std.specs.Option.{unwrap_or}
 use Rattle.px_ends.specs.MemoryDevice.{due_of, left_after}
 
@@ -62,3 +62,9 @@ pub frames_fit : (more at n c d w room : ℕ) → c ≤ at → at + n ≤ c + d 
 frames_fit more at n c d w room late fit whole enough =
     let within : (at - c) + n ≤ d = omega arith in
     omega (arith, whole, enough, add-mul (at - c) n w, mul-le-mul_right w within)
+
+-- bytes put anew after those that left
+pub put_further : (gone from : ℕ) (bytes more : List ℕ) → gone ≤ length bytes → drop gone (take (gone + from) bytes ++ more) ≡ take from (drop gone bytes) ++ more
+put_further gone from bytes more inside =
+    drop-append-le gone (take (gone + from) bytes) more (omega (arith, inside, length-take (gone + from) bytes))
+    ∙ ap (λ (kept : List ℕ). kept ++ more) (drop-take gone from bytes)

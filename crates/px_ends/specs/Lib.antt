@@ -4,6 +4,7 @@ pub mod Links
 pub mod Whole
 pub mod Memory
 pub mod Device
+pub mod DeviceBuffer
 pub mod MemoryDevice
 pub mod MemoryClock
 pub mod Host

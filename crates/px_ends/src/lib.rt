@@ -8,7 +8,7 @@ mod bytes;
 mod calls;
 mod clock;
 mod device;
-mod front;
+mod device_buffer;
 mod host;
 mod link;
 mod memory_clock;

@@ -4,7 +4,7 @@ ghost use Rattle.std.specs.Option.{unwrap_or};
 ghost use Rattle.px_ends.specs.Device.{DeviceState, HoldsFrames, IsShape, Plays, Fails, IsPut, put_at};
 ghost use Rattle.px_ends.specs.MemoryDevice.{MemoryDevice, state_of, new_memory_device, due_of, due_in, left_after, synced, sync_failed, after_put, taken, set_in};
 
-use crate::front::{play_front, put_behind};
+use crate::device_buffer::DeviceBuffer;
 use crate::{Device, DeviceFault, DeviceShape, Played};
 use px_types::{Mem, NoMemory};
 use std::alloc::Global;
@@ -20,7 +20,7 @@ pub struct MemDevice {
     depth: u32,
     consumed: u64,
     filled: u64,
-    buffer: Vec<u8>,
+    buffer: DeviceBuffer,
     played: Vec<u8>,
     faults: u64,
     failed: bool,
@@ -43,7 +43,7 @@ impl Model for MemDevice {
       depth = d.depth;
       consumed = d.consumed;
       filled = d.filled;
-      buffer = d.buffer.items;
+      buffer = d.buffer.bytes;
       played = d.played.items;
       faults = d.faults;
       failed = d.failed;
@@ -55,8 +55,8 @@ impl Model for MemDevice {
 
     ghost invariant = { λ d. (1 ≤ d.frame) × (d.frame ≤ 128) × (d.depth ≤ 65536) × (d.consumed ≤ d.filled)
         × (d.filled ≤ d.consumed + d.depth) × (d.filled ≤ 2 ^ 61)
-        × (length d.buffer.items + d.consumed * d.frame ≡ d.filled * d.frame)
-        × (d.depth * d.frame ≤ vec_capacity d.buffer)
+        × (length d.buffer.bytes + d.consumed * d.frame ≡ d.filled * d.frame)
+        × (d.buffer.room ≡ d.depth * d.frame)
         × (length d.played.items + (unwrap_or d.armed 0 + d.left) * d.frame ≤ vec_capacity d.played) };
 }
 
@@ -102,7 +102,7 @@ impl MemDevice {
             depth: shape.depth,
             consumed: 0,
             filled: 0,
-            buffer: Vec::with_capacity(alloc, bytes_of(shape.depth as u64, shape.frame))?,
+            buffer: DeviceBuffer::new(alloc, bytes_of(shape.depth as u64, shape.frame))?,
             played: Vec::new(alloc),
             faults: 0,
             failed: false,
@@ -200,11 +200,8 @@ impl Device for MemDevice {
             self.left,
             self.filled - self.consumed,
         );
-        play_front(
-            &mut self.buffer,
-            &mut self.played,
-            bytes_of(frames, self.frame),
-        );
+        let bytes = bytes_of(frames, self.frame);
+        self.buffer.play(bytes, &mut self.played);
         self.left = left_of(self.armed, self.left, frames);
         self.armed = None;
         self.consumed += frames;
@@ -218,7 +215,7 @@ impl Device for MemDevice {
         ensures after { self.new ≡ after_put at bytes.now self.old }
     {
         let from = bytes_of(at - self.consumed, self.frame);
-        put_behind(&mut self.buffer, from, bytes);
+        self.buffer.put(from, bytes);
         self.filled = at + bytes.len() as u64 / self.frame as u64;
     }
 }
