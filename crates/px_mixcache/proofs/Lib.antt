@@ -3,3 +3,4 @@ pub mod Each
 pub mod Gone
 pub mod Part
 pub mod Stretches
+mod StereoFrames

@@ -1,7 +1,8 @@
 // The frames that the kept sums become.
-ghost use Rattle.std.specs.Prelude.{◌≡◌, ◌≢◌, ℕ, ◌+◌, ◌*◌, ◌%◌, ◌^◌, ◌<◌, ◌≤◌, map, length, pos};
+ghost use Rattle.std.specs.Prelude.{◌≡◌, ◌≢◌, ℕ, ◌+◌, ◌*◌, ◌%◌, ◌^◌, ◌<◌, ◌≤◌, map, length, pos, IsTrue};
 ghost use Rattle.std.specs.Int.{saturate_signed};
 ghost use Rattle.std.specs.List.{concat, range_with_len};
+ghost use Rattle.px_sample.specs.declared.format.Format.TheVariants.{S16Le};
 ghost use Rattle.px_sample.specs.Format.{width_of, size_of, IsLinear};
 ghost use Rattle.px_sample.specs.WorkValue.{IsWithin};
 ghost use Rattle.px_kernel.specs.Kernel.{at, bits_of};
@@ -9,6 +10,7 @@ ghost use Rattle.px_mixcache.specs.Cache.{run_at};
 ghost use Rattle.px_mixcache.specs.Packing.{frame_of};
 
 use crate::run::Run;
+use crate::stereo::pack_stereo;
 use px_kernel::{Steps, clip_pack};
 use px_sample::{Format, Width, pack};
 use std::sync::ledger::Ledger;
@@ -18,6 +20,43 @@ const PLACES: usize = 256;
 
 /// Writes `frames` frames from `from` on into `out`, which has exactly that room: each sum clipped once to the format's width, and packed.
 pub(crate) fn pack_frames<T: Ledger>(
+    runs: &[Run],
+    from: usize,
+    frames: usize,
+    format: Format,
+    out: &mut [u8],
+    steps: &mut Steps<T>,
+)
+    requires linear { IsLinear format }
+    requires some { 1 ≤ length runs.now }
+    requires few { length runs.now ≤ 32 }
+    requires near { from + frames < 2 ^ 64 }
+    requires inside { (c : ℕ) → c < length runs.now → from + frames ≤ length (run_at runs.now c).sums }
+    requires whole { length out.old ≡ frames * (length runs.now * size_of format) }
+    ensures bytes { out.new ≡ concat (map (frame_of format runs.now) (range_with_len from frames)) }
+    ensures ticks { steps.new ≡ steps.old + length runs.now * frames }
+{
+    if is_stereo(runs.len(), format) {
+        pack_stereo(runs, from, frames, out);
+        steps.tick(2 * frames as u64);
+    } else {
+        pack_stretches(runs, from, frames, format, out, steps);
+    }
+}
+
+// Whether a frame has two samples of 16 bits, little-endian.
+fn is_stereo(channels: usize, format: Format) -> bool
+    ensures two { IsTrue result → channels ≡ 2 }
+    ensures format { IsTrue result → format ≡ S16Le }
+{
+    match format {
+        Format::S16Le => channels == 2,
+        _ => false,
+    }
+}
+
+// The same for any channels and format, by stretches that fit scratch room.
+fn pack_stretches<T: Ledger>(
     runs: &[Run],
     from: usize,
     frames: usize,

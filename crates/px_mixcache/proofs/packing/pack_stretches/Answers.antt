@@ -5,7 +5,7 @@ use Rattle.std.specs.List.{concat, range_with_len}
 use Rattle.px_sample.proofs.RunLemmas.{length_part}
 use Rattle.px_mixcache.specs.Packing.{frame_of}
 use Rattle.px_mixcache.proofs.Stretches.{run_more, run_fits, some_most}
-use Rattle.px_mixcache.proofs.packing.pack_frames.Goals as goal
+use Rattle.px_mixcache.proofs.packing.pack_stretches.Goals as goal
 
 pub slice_bounds-pack_stretch-end : goal.slice_bounds-pack_stretch-end
 slice_bounds-pack_stretch-end g c =

@@ -1,7 +1,7 @@
 use Rattle.std.proofs.Common.{◌≡◌, ◌+◌, ◌-◌, ◌*◌, ◌≤◌, length, map, take}
 use Rattle.std.specs.List.{concat, range_with_len}
 use Rattle.px_mixcache.specs.Packing.{frame_of}
-use Rattle.px_mixcache.proofs.packing.pack_frames.Given as goal
+use Rattle.px_mixcache.proofs.packing.pack_stretches.Given as goal
 
 abbrev pub invariant-loop-done : goal.invariant-loop-done
 invariant-loop-done g l = record {
