@@ -4,3 +4,4 @@ pub mod Keeping
 pub mod Writing
 pub mod Reading
 pub mod Sounding
+mod Halves

@@ -63,7 +63,7 @@ frame_size_known spec = ap (λ (n : ℕ). spec.channels * n) (size_known spec.fo
 
 -- ---- the values of its channels
 
-chunk_at : (size n i : ℕ) (bytes : List ℕ) → i < n → get_or (first_chunks size n bytes) i [] ≡ take size (drop (i * size) bytes)
+pub chunk_at : (size n i : ℕ) (bytes : List ℕ) → i < n → get_or (first_chunks size n bytes) i [] ≡ take size (drop (i * size) bytes)
 chunk_at size zero i bytes less = absurd (omega (arith, less))
 chunk_at size (suc n) zero bytes less = let e : 0 ≡ 0 * size = omega arith in ap (λ (at : ℕ). take size (drop at bytes)) e
 chunk_at size (suc n) (suc i) bytes less =
@@ -71,7 +71,7 @@ chunk_at size (suc n) (suc i) bytes less =
     ∙ (let e : size + i * size ≡ suc i * size = omega (arith, add-mul 1 i size) in
     ap (λ (rest : List ℕ). take size rest) (drop-drop (i * size) size bytes ∙ ap (λ (at : ℕ). drop at bytes) e))
 
-length_chunks : (size n : ℕ) (bytes : List ℕ) → length (first_chunks size n bytes) ≡ n
+pub length_chunks : (size n : ℕ) (bytes : List ℕ) → length (first_chunks size n bytes) ≡ n
 length_chunks size zero bytes = refl
 length_chunks size (suc n) bytes = omega (arith, length_chunks size n (drop size bytes))
 

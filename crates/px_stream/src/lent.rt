@@ -1,5 +1,5 @@
 // Work values read in place, from a block that the queue lends.
-ghost use Rattle.std.specs.Prelude.{◌≡◌, ℕ, ◌+◌, ◌*◌, ◌<◌, ◌≤◌, [], pos, length, slice_index, slice_index_or, All, FitsSigned, IsTrue};
+ghost use Rattle.std.specs.Prelude.{◌≡◌, ℕ, ◌+◌, ◌*◌, ◌<◌, ◌≤◌, [], pos, length, take, drop, slice_index, slice_index_or, All, FitsSigned, IsTrue};
 ghost use Rattle.std.specs.Int.{w32};
 ghost use Rattle.px_sample.specs.declared.format.Format.TheVariants.{S16Le};
 ghost use Rattle.px_sample.specs.declared.format.Width.TheVariants.{W16};
@@ -81,32 +81,46 @@ fn put_samples(
     ensures after { (i : ℕ) → start + frames ≤ i → slice_index_or out.new i (pos 0) ≡ slice_index_or out.old i (pos 0) }
     ensures fit { All (FitsSigned w32) out.old → All (FitsSigned w32) out.new }
 {
-    let (samples, _) = bytes.as_chunks::<2>();
     if channels == 2 {
-        put_samples_of_two(samples, channel, start, frames, out);
+        let (pairs, _) = bytes.as_chunks::<4>();
+        put_samples_of_two(pairs, channel, start, frames, out);
     } else {
+        let (samples, _) = bytes.as_chunks::<2>();
         put_samples_of_any(samples, channels, channel, start, frames, out);
     }
 }
 
-// The same for two channels, a number that the compiler knows here.
+// The same for two channels, whose frames are read as words: a processor reads consecutive words together, and samples that lie apart one by one.
 fn put_samples_of_two(
-    samples: &[[u8; 2]],
+    pairs: &[[u8; 4]],
     channel: usize,
     start: usize,
     frames: usize,
     out: &mut [i32],
 )
     requires channel { channel < 2 }
-    requires whole { frames * 2 ≤ length samples.now }
+    requires whole { frames ≤ length pairs.now }
     requires inside { start + frames ≤ length out.old }
-    ensures values { (j : ℕ) → j < frames → slice_index_or out.new (start + j) (pos 0) ≡ work_value_of S16Le (slice_index_or samples.now (j * 2 + channel) []) }
+    ensures values { (j : ℕ) → j < frames → slice_index_or out.new (start + j) (pos 0) ≡ work_value_of S16Le (take 2 (drop (channel * 2) (slice_index_or pairs.now j []))) }
     ensures before { (i : ℕ) → i < start → slice_index_or out.new i (pos 0) ≡ slice_index_or out.old i (pos 0) }
     ensures after { (i : ℕ) → start + frames ≤ i → slice_index_or out.new i (pos 0) ≡ slice_index_or out.old i (pos 0) }
     ensures fit { All (FitsSigned w32) out.old → All (FitsSigned w32) out.new }
 {
     for j in 0..frames {
-        out[start + j] = read_sample(&samples[j * 2 + channel]);
+        out[start + j] = read_sample(&sample_of(&pairs[j], channel));
+    }
+}
+
+// One of the two samples of a frame, out of all its bytes.
+fn sample_of(pair: &[u8; 4], channel: usize) -> [u8; 2]
+    requires { channel < 2 }
+    ensures { result ≡ take 2 (drop (channel * 2) pair.now) }
+{
+    let word = u32::from_le_bytes(*pair);
+    if channel == 0 {
+        ((word % 65_536) as u16).to_le_bytes()
+    } else {
+        ((word / 65_536) as u16).to_le_bytes()
     }
 }
 
