@@ -1,5 +1,5 @@
 -- What is heard of a queue, and how much of it a write leaves unaltered.
-use Rattle.std.specs.Prelude.{ℕ, min, ℤ, Bool, true, false, not, List, Option, None, if◌then◌else◌}
+use Rattle.std.specs.Prelude.{ℕ, min, ℤ, Bool, true, false, not, ◌||◌, ◌==◌, List, length, Option, None, if◌then◌else◌}
 use Rattle.px_model.specs.Frame.{Frame}
 use Rattle.px_model.specs.Held.{place}
 use Rattle.px_model.specs.Index.{above}
@@ -9,6 +9,10 @@ use Rattle.px_model.specs.Write.{Outcome, stored, overflow, outside, queue_with}
 -- the frame heard k ahead of the read index: none in a hole, past the edge, or while the queue is short
 abbrev pub heard_of : Queue → ℕ → Option Frame
 heard_of q k = if is_short q then None else place q.held k
+
+-- nothing is heard of it: no frame is held, or it is short
+abbrev pub is_silent : Queue → Bool
+is_silent q = length q.held == 0 || is_short q
 
 abbrev pub is_other : Bool → Bool → Bool
 is_other true b = not b

@@ -16,6 +16,7 @@ mod peek;
 mod plain;
 mod push;
 mod queue;
+mod quiet;
 
 pub use peek::Span;
 pub use push::Pushed;

@@ -73,7 +73,7 @@ impl FrameQueue {
     }
 
     // How many places from place `k` on are holes, at most `most`.
-    fn holes(&self, k: u32, most: u32) -> u32
+    pub(crate) fn holes(&self, k: u32, most: u32) -> u32
         ensures few { result ≤ most }
         ensures holes { (j : ℕ) → j < result → place self.now.queue.held (k + j) ≡ None }
         ensures end { result < most → IsSome (place self.now.queue.held (k + result)) }
