@@ -5,6 +5,7 @@ pub mod Ranges
 pub mod Reading
 pub mod Packing
 pub mod Sounding
+pub mod Spanned
 pub mod Added
 pub mod Shares
 pub mod Follows

@@ -12,7 +12,7 @@ use Rattle.px_kernel.specs.Kernel.{at, changed, scaled}
 use Rattle.px_mixcache.specs.Run.{AreValues}
 use Rattle.px_mixcache.specs.Cache.{KeptSums, kept_at, run_at, run_of, part_at}
 use Rattle.px_kept_mix.specs.Kept.{IsSumOf, from_on}
-use Rattle.px_kept_mix.specs.Keeping.{AreSmall}
+use Rattle.px_kept_mix.specs.Keeping.{AreSmallFrom}
 use Rattle.px_kept_mix.proofs.Ranges.{sum_fits, share_little, one_more}
 
 -- the place of a channel's value
@@ -42,7 +42,7 @@ module _ (values : List ℤ) (channels given runs : ℕ) (same : runs ≡ channe
 nothing_fits : FitsSigned w32 (pos 0)
 nothing_fits = record { sfits = omega arith }
 
-none_little : IsSumOf 1 (pos 0)
+pub none_little : IsSumOf 1 (pos 0)
 none_little = record { low = omega (arith, ints); high = omega (arith, ints) }
 
 either : (b : Bool) (x : ℤ) → IsSumOf 1 x → IsSumOf 1 (cond b x (pos 0))
@@ -50,7 +50,7 @@ either true x little = little
 either false x little = none_little
 
 module _ (kept : KeptSums) (values : List ℤ) (factors : List ℕ) (from len : ℕ) (size : length values ≡ length kept.runs * len) (inside : from + len ≤ kept.frames)
-    (words : All (FitsSigned w32) values) (room : AreSmall 258 kept) (small : (c : ℕ) → c < length kept.runs → slice_index factors c < 2 ^ 32) where
+    (words : All (FitsSigned w32) values) (room : AreSmallFrom from 258 kept) (small : (c : ℕ) → c < length kept.runs → slice_index factors c < 2 ^ 32) where
   word : (c j : ℕ) → c < length kept.runs → j < len → FitsSigned w32 (get_or values (c * len + j) (pos 0))
   word c j fed less = All-get_or (FitsSigned w32) values (c * len + j) (pos 0) (omega (arith, size, place_within c len (length kept.runs) j fed less)) words
 
@@ -76,7 +76,7 @@ module _ (kept : KeptSums) (values : List ℤ) (factors : List ℕ) (from len : 
         subst (λ (v : ℤ). FitsSigned w64 (changed add (at (run_at kept.runs c).sums (from + j)) (scaled v (slice_index factors c)))) (sym (run_value values c len j few))
         (sum_fits (changed add (kept_at kept c (from + j)) (scaled (get_or values (c * len + j) (pos 0)) (slice_index factors c)))
         (one_more 258 add (kept_at kept c (from + j)) (scaled (get_or values (c * len + j) (pos 0)) (slice_index factors c))
-        (room c (from + j) fed (omega (arith, few, inside)))
+        (room c (from + j) fed (omega arith) (omega (arith, few, inside)))
         (share_little (get_or values (c * len + j) (pos 0)) (slice_index factors c) (word c j fed few) (small c fed))));
   }
 

@@ -22,7 +22,7 @@ use Rattle.px_stream.specs.Samples.{samples, bit_width}
 use Rattle.px_stream.specs.Values.{value_at, GivesValues}
 use Rattle.px_stream.proofs.Reading.{is_some}
 use Rattle.px_stream.proofs.Sounds.{format_known}
-use Rattle.px_kept_mix.specs.Kept.{from_on}
+use Rattle.px_kept_mix.specs.Kept.{from_on, between}
 use Rattle.px_kept_mix.specs.Keeping.{share_in}
 use Rattle.px_kept_mix.proofs.Putting.{place_within, run_value, part_is}
 
@@ -89,6 +89,10 @@ from_same from k x y same =
 pub from_high : (from k : ℕ) (x : ℤ) → from ≤ k → from_on from k x ≡ x
 from_high from k x high = cond-false (nat_lt k from) (pos 0) x (le-ltb k from high)
 
+-- a number between two places
+pub inside_both : (from to k : ℕ) (x : ℤ) → from ≤ k → k < to → between from to k x ≡ x
+inside_both from to k x high low = cond-true (nat_lt k to) (from_on from k x) (pos 0) (lt-ltb k to low) ∙ from_high from k x high
+
 -- the values of the frames that are given, a run for each channel, are all that the stream adds up to a place
 module _ (sink : Spec) (s : Stream) (width : Width) (same : width ≡ width_of sink.format) (from len given places : ℕ) (values : List ℤ) (factors : List ℕ) (gains : factors ≡ s.factors)
     (size : places ≡ length s.feed * given) (heard : (c j : ℕ) → c < length s.feed → j < given → get_or values (c * given + j) (pos 0) ≡ value_at width s c (frame_at s (from + j)))
@@ -119,7 +123,25 @@ module _ (sink : Spec) (s : Stream) (width : Width) (same : width ≡ width_of s
       part_is (take places values) factors from given c k
       ∙ from_same from k (scaled (at (run_of given (take places values) c) (k - from)) (slice_index factors c)) (share_in sink s c k) (λ high. value_shared c k fed high less)
 
+  -- past the frames nothing is added
+  part_past : (c k : ℕ) → given ≤ len → from + len ≤ k → part_at from given (take places values) factors c k ≡ pos 0
+  part_past c k few past =
+      part_is (take places values) factors from given c k
+      ∙ from_high from k (scaled (at (run_of given (take places values) c) (k - from)) (slice_index factors c)) (omega (arith, past))
+      ∙ ap (λ (x : ℤ). scaled x (slice_index factors c))
+      (get_or_past (run_of given (take places values) c) (k - from) (pos 0) (omega (arith, few, past, length-take given (drop (c * given) (take places values)))))
+      ∙ scaled_zero (slice_index factors c)
+
+  part_between : (c k : ℕ) → given ≤ len → c < length s.feed → part_at from given (take places values) factors c k ≡ between from (from + len) k (share_in sink s c k)
+  part_between c k few fed =
+      ⊎_elim
+      (λ (less : k < from + len).
+      part_shared c k fed less ∙ sym (cond-true (nat_lt k (from + len)) (from_on from k (share_in sink s c k)) (pos 0) (lt-ltb k (from + len) less)))
+      (λ (past : from + len ≤ k).
+      part_past c k few past ∙ sym (cond-false (nat_lt k (from + len)) (from_on from k (share_in sink s c k)) (pos 0) (le-ltb k (from + len) past)))
+      (cases_lt k (from + len))
+
   -- where as many of the first values as these runs have are that many for each
-  pub part_taken : (runs : ℕ) → length (take places values) / runs ≡ given
-      → (c k : ℕ) → c < length s.feed → k < from + len → part_at from (length (take places values) / runs) (take places values) factors c k ≡ from_on from k (share_in sink s c k)
-  part_taken runs run c k fed less = ap (λ (n : ℕ). part_at from n (take places values) factors c k) run ∙ part_shared c k fed less
+  pub part_taken : (runs : ℕ) → length (take places values) / runs ≡ given → given ≤ len
+      → (c k : ℕ) → c < length s.feed → part_at from (length (take places values) / runs) (take places values) factors c k ≡ between from (from + len) k (share_in sink s c k)
+  part_taken runs run few c k fed = ap (λ (n : ℕ). part_at from n (take places values) factors c k) run ∙ part_between c k few fed

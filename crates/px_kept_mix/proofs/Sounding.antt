@@ -44,6 +44,10 @@ share_is sink s channel k =
     open_share sink s channel s.corked (is_short s.queue) (cond (nat_lt k (left_of s.queue)) (sound_of (place s.queue.held k)) nothing) (place s.queue.held k)
     (past_edge sink s channel k (left_of s.queue) s.queue.held (omega arith))
 
+-- a frame that isn't heard adds nothing
+pub share_none : (sink : SampleSpec) (s : Stream) (channel k : ℕ) → heard_at s k ≡ None → share_of samples sink s channel (frame_at s k) ≡ pos 0
+share_none sink s channel k none = share_is sink s channel k ∙ ap (share_by sink s.spec s.feed s.factors channel) none
+
 pub share_same : (sink : SampleSpec) (k : ℕ) (s t : Stream) → SoundsSame k s t → (channel : ℕ) → share_of samples sink t channel (frame_at t k) ≡ share_of samples sink s channel (frame_at s k)
 share_same sink k s t same channel =
     share_is sink t channel k

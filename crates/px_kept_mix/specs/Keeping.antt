@@ -8,7 +8,7 @@ use Rattle.px_model.specs.Stream.{Stream}
 use Rattle.px_model.specs.Sink.{Input}
 use Rattle.px_stream.specs.Samples.{samples}
 use Rattle.px_stream.specs.Heard.{SoundsSame}
-use Rattle.px_kept_mix.specs.Kept.{AreKept, IsSumOf, from_on, share_at, share_there}
+use Rattle.px_kept_mix.specs.Kept.{AreKept, IsSumOf, from_on, between, share_at, share_there}
 
 -- the share of a stream in a sink channel, k frames ahead
 abbrev pub share_in : Spec → Stream → ℕ → ℕ → ℤ
@@ -33,6 +33,15 @@ AreSmall n kept = (c k : ℕ) → c < length kept.runs → k < kept.frames → I
 abbrev pub Shares : Bool → Spec → Stream → ℕ → KeptSums → KeptSums → Type 0
 Shares add sink s from before after =
     (c k : ℕ) → c < length before.runs → k < before.frames → kept_at after c k ≡ changed add (kept_at before c k) (from_on from k (share_in sink s c k))
+
+-- the same from frame `from` up to frame `to`
+abbrev pub SharesBetween : Bool → Spec → Stream → ℕ → ℕ → KeptSums → KeptSums → Type 0
+SharesBetween add sink s from to before after =
+    (c k : ℕ) → c < length before.runs → k < before.frames → kept_at after c k ≡ changed add (kept_at before c k) (between from to k (share_in sink s c k))
+
+-- each sum from frame `from` on is in the range of n shares
+abbrev pub AreSmallFrom : ℕ → ℕ → KeptSums → Type 0
+AreSmallFrom from n kept = (c k : ℕ) → c < length kept.runs → from ≤ k → k < kept.frames → IsSumOf n (kept_at kept c k)
 
 -- each share of a stream from frame `from` up to `to` is in range
 abbrev pub AreLittle : Spec → Stream → ℕ → ℕ → Type 0

@@ -36,6 +36,10 @@ pub record AreKept (samples : Samples) (sink : SampleSpec) (n : ℕ) (inputs : L
 abbrev pub from_on : ℕ → ℕ → ℤ → ℤ
 from_on from k x = if nat_lt k from then pos 0 else x
 
+-- a number from place `from` up to place `to`, and 0 before and past them
+abbrev pub between : ℕ → ℕ → ℕ → ℤ → ℤ
+between from to k x = if nat_lt k to then from_on from k x else pos 0
+
 -- the share of stream `gone` was taken out of the sums of the next n frames and that of `come` put in, both from place `from` on
 abbrev pub Exchanges : Samples → SampleSpec → ℕ → ℕ → Option Stream → Option Stream → (ℕ → ℕ → ℤ) → (ℕ → ℕ → ℤ) → Type 0
 Exchanges samples sink n from gone come kept kept' =

@@ -13,8 +13,9 @@ ghost use Rattle.px_mixcache.specs.Cache.{KeptSums, kept_at, part_at};
 ghost use Rattle.px_stream.specs.Samples.{samples};
 ghost use Rattle.px_stream.specs.Values.{value_at};
 ghost use Rattle.px_kept_mix.specs.Kept.{IsSumOf};
-ghost use Rattle.px_kept_mix.specs.Keeping.{IsKept, IsAsLarge, AreSmall, Shares, AreLittle};
+ghost use Rattle.px_kept_mix.specs.Keeping.{IsKept, IsAsLarge, AreSmall, AreSmallFrom, Shares, SharesBetween, AreLittle};
 
+use crate::spans::change_spans;
 use px_kernel::Steps;
 use px_mixcache::MixCache;
 use px_sample::{Spec, Width};
@@ -138,8 +139,8 @@ fn read<T: Ledger>(
     shorten(values, runs, run, given as usize)
 }
 
-// Adds (`add`) a stream's share to the sums from frame `from` on, or takes it away. `values` has room for those frames; where the stream gives none,
-// nothing changes.
+// Adds (`add`) a stream's share to the sums of `frames` frames from frame `from` on, or takes it away. `values` has room for those frames; where the
+// stream gives none, nothing changes.
 fn change<T: Ledger>(
     cache: &mut MixCache,
     values: &mut [i32],
@@ -153,16 +154,16 @@ fn change<T: Ledger>(
     requires channels { length cache.old.runs ≡ sink.now.channels }
     requires some { 1 ≤ sink.now.channels }
     requires fed { length stream.now.stream.feed ≡ sink.now.channels }
-    requires from { from + frames ≡ cache.old.frames }
+    requires inside { from + frames ≤ cache.old.frames }
     requires near { cache.old.frames ≤ 65536 }
     requires size { length values.old ≡ sink.now.channels * frames }
     requires words { All (FitsSigned w32) values.old }
-    requires room { AreSmall 258 cache.old }
+    requires room { AreSmallFrom from 258 cache.old }
     ensures size { length values.new ≡ length values.old }
     ensures words { All (FitsSigned w32) values.new }
     ensures large { IsAsLarge cache.old cache.new }
-    ensures sums { Shares add sink.now stream.now.stream from cache.old cache.new }
-    ensures little { AreLittle sink.now stream.now.stream from cache.old.frames }
+    ensures sums { SharesBetween add sink.now stream.now.stream from (from + frames) cache.old cache.new }
+    ensures little { AreLittle sink.now stream.now.stream from (from + frames) }
     ensures ticks { steps.new ≤ steps.old + 2 * (sink.now.channels * frames) }
 {
     let given = read(stream, from, sink.format.width(), frames, values, steps);
@@ -193,7 +194,7 @@ fn put<T: Ledger>(
     requires whole { length values.now ≡ length cache.old.runs * (length values.now / length cache.old.runs) }
     requires inside { from + length values.now / length cache.old.runs ≤ cache.old.frames }
     requires words { All (FitsSigned w32) values.now }
-    requires room { AreSmall 258 cache.old }
+    requires room { AreSmallFrom from 258 cache.old }
     ensures large { IsAsLarge cache.old cache.new }
     ensures sums { (c k : ℕ) → c < length cache.old.runs → k < cache.old.frames → kept_at cache.new c k ≡ changed add (kept_at cache.old c k) (part_at from (length values.now / length cache.old.runs) values.now factors.now c k) }
     ensures little { (c k : ℕ) → c < length cache.old.runs → IsSumOf 1 (part_at from (length values.now / length cache.old.runs) values.now factors.now c k) }
@@ -202,8 +203,8 @@ fn put<T: Ledger>(
     cache.change(from, values, factors, add, steps);
 }
 
-// The same with the first places of `values`, for `frames` frames.
-fn change_over<T: Ledger>(
+/// Adds (`add`) a stream's share to the sums of `frames` frames from frame `from` on, or takes it away. `values` has room for those frames or more.
+pub(crate) fn change_over<T: Ledger>(
     cache: &mut MixCache,
     values: &mut [i32],
     frames: usize,
@@ -216,16 +217,16 @@ fn change_over<T: Ledger>(
     requires channels { length cache.old.runs ≡ sink.now.channels }
     requires some { 1 ≤ sink.now.channels }
     requires fed { length stream.now.stream.feed ≡ sink.now.channels }
-    requires from { from + frames ≡ cache.old.frames }
+    requires inside { from + frames ≤ cache.old.frames }
     requires near { cache.old.frames ≤ 65536 }
     requires size { sink.now.channels * frames ≤ length values.old }
     requires words { All (FitsSigned w32) values.old }
-    requires room { AreSmall 258 cache.old }
+    requires room { AreSmallFrom from 258 cache.old }
     ensures size { length values.new ≡ length values.old }
     ensures words { All (FitsSigned w32) values.new }
     ensures large { IsAsLarge cache.old cache.new }
-    ensures sums { Shares add sink.now stream.now.stream from cache.old cache.new }
-    ensures little { AreLittle sink.now stream.now.stream from cache.old.frames }
+    ensures sums { SharesBetween add sink.now stream.now.stream from (from + frames) cache.old cache.new }
+    ensures little { AreLittle sink.now stream.now.stream from (from + frames) }
     ensures ticks { steps.new ≤ steps.old + 2 * (sink.now.channels * frames) }
 {
     let places = sink.channels as usize * frames;
@@ -303,14 +304,10 @@ impl KeptMix {
         ensures little { AreLittle sink.now stream.now.stream from self.old.frames }
         ensures ticks { steps.new ≤ steps.old + 2 * (sink.now.channels * (self.old.frames - from)) }
     {
-        let frames = self.frames - from;
-        if frames == 0 {
-            return;
-        }
-        change_over(
+        change_spans(
             &mut self.cache,
             self.values.as_mut_slice(),
-            frames as usize,
+            self.frames,
             sink,
             stream,
             from,

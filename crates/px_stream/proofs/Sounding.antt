@@ -1,8 +1,13 @@
 -- What sounds as before.
-use Rattle.std.proofs.Common.{◌≡◌, ℕ, ◌<◌, List, length, refl, ap, sym, ◌∙◌, Option, None, cond, arith}
-use Rattle.std.specs.Prelude.{ℤ, pos}
+use Rattle.std.proofs.Common.{◌≡◌, ℕ, suc, ◌<◌, List, [], ◌∷◌, length, refl, ap, sym, ◌∙◌, Bool, true, false, Option, None, cond, arith}
+use Rattle.std.specs.Prelude.{ℤ, pos, ◌||◌, ◌==◌}
+use Rattle.std.proofs.lemmas.Bool.{false≢true}
+use Rattle.std.proofs.lemmas.Bool.Decides.{nat_tests}
 use Rattle.px_model.specs.Frame.{Frame, frame_size, frames_of}
+use Rattle.px_model.specs.Held.{place}
+use Rattle.px_model.specs.Queue.{is_short}
 use Rattle.px_model.specs.Stream.{Stream}
+use Rattle.px_model.specs.Control.{flushed, triggered, prebuffered, with_attr}
 use Rattle.px_model.specs.Going.{ahead_of}
 use Rattle.px_model.specs.Message.{StreamMessage}
 use Rattle.px_model.specs.Applied.{applied, write_outcome}
@@ -10,7 +15,57 @@ use Rattle.px_model.specs.Write.{outcome_of, seek_of, target_of}
 use Rattle.px_queue.specs.Heard.{unaltered_by}
 use Rattle.px_queue.proofs.Hearing.{heard_before}
 use Rattle.px_queue.proofs.Storing.{length_frames}
-use Rattle.px_stream.specs.Heard.{SoundsSame, unaltered_of}
+use Rattle.px_stream.specs.Heard.{SoundsSame, unaltered_of, unaltered_unless}
+
+-- ---- where nothing is heard, and where what is held is
+
+some_held : (n : ℕ) → (suc n == 0) ≡ false
+some_held n = grind (arith, nat_tests)
+
+none_where : (corked short : Bool) (held : List (Option Frame)) (k : ℕ) → (corked || (length held == 0 || short)) ≡ true → cond corked None (cond short None (place held k)) ≡ None
+none_where true short held k e = refl
+none_where false true held k e = refl
+none_where false false [] k e = refl
+none_where false false (o ∷ held) k e = absurd (false≢true (sym (ap (λ (b : Bool). b || false) (some_held (length held))) ∙ e))
+
+held_where : (corked short : Bool) (held : List (Option Frame)) (k : ℕ) → (corked || (length held == 0 || short)) ≡ false → cond corked None (cond short None (place held k)) ≡ place held k
+held_where true short held k e = absurd (false≢true (sym e))
+held_where false true [] k e = absurd (false≢true (sym e))
+held_where false true (o ∷ held) k e = absurd (false≢true (sym e ∙ ap (λ (b : Bool). b || true) (some_held (length held))))
+held_where false false held k e = refl
+
+-- two frames that are heard, by whether any is
+heard_unless : (before after : Bool) (a b : Option Frame) (n k : ℕ) → k < unaltered_unless before after n
+    → (before ≡ true → b ≡ None) → (after ≡ true → a ≡ None) → (before ≡ false → after ≡ false → a ≡ b) → a ≡ b
+heard_unless true true a b n k l before after both = after refl ∙ sym (before refl)
+heard_unless true false a b n k l before after both = absurd (omega (arith, l))
+heard_unless false true a b n k l before after both = absurd (omega (arith, l))
+heard_unless false false a b n k l before after both = both refl refl
+
+-- the frames that are held stay
+held_stay : (corked corked' short short' : Bool) (held : List (Option Frame)) (n k : ℕ)
+    → k < unaltered_unless (corked || (length held == 0 || short)) (corked' || (length held == 0 || short')) n
+    → cond corked' None (cond short' None (place held k)) ≡ cond corked None (cond short None (place held k))
+held_stay corked corked' short short' held n k l =
+    heard_unless (corked || (length held == 0 || short)) (corked' || (length held == 0 || short'))
+    (cond corked' None (cond short' None (place held k))) (cond corked None (cond short None (place held k))) n k l
+    (none_where corked short held k) (none_where corked' short' held k)
+    (λ before after. held_where corked' short' held k after ∙ sym (held_where corked short held k before))
+
+-- they go
+all_gone : (corked short short' : Bool) (held : List (Option Frame)) (n k : ℕ) → k < unaltered_unless (corked || (length held == 0 || short)) true n
+    → cond corked None (cond short' None (place [] k)) ≡ cond corked None (cond short None (place held k))
+all_gone corked short short' held n k l =
+    heard_unless (corked || (length held == 0 || short)) true
+    (cond corked None (cond short' None (place [] k))) (cond corked None (cond short None (place held k))) n k l
+    (none_where corked short held k) (λ e. none_here corked short') (λ before after. absurd (false≢true (sym after)))
+  where
+    none_here : (corked short : Bool) → cond corked None (cond short None (place [] k)) ≡ None
+    none_here true short = refl
+    none_here false true = refl
+    none_here false false = refl
+
+-- ---- a message
 
 -- what stays once a message is applied
 pub unaltered_sounds : (m : StreamMessage) (s : Stream) (n k : ℕ) → k < unaltered_of n m s → SoundsSame k s (applied n m s)
@@ -23,12 +78,42 @@ unaltered_sounds (StreamMessage.write seek offset frames bytes) s n k l = record
 }
 unaltered_sounds (StreamMessage.query tag) s n k l = record { spec = refl; feed = refl; factors = refl; heard = refl }
 unaltered_sounds (StreamMessage.attach feed factors) s n k l = absurd (omega (arith, l))
-unaltered_sounds (StreamMessage.cork on) s n k l = absurd (omega (arith, l))
-unaltered_sounds StreamMessage.flush s n k l = absurd (omega (arith, l))
-unaltered_sounds StreamMessage.trigger s n k l = absurd (omega (arith, l))
-unaltered_sounds StreamMessage.prebuf s n k l = absurd (omega (arith, l))
-unaltered_sounds (StreamMessage.drain tag) s n k l = absurd (omega (arith, l))
-unaltered_sounds (StreamMessage.attr attr) s n k l = absurd (omega (arith, l))
+unaltered_sounds (StreamMessage.cork on) s n k l = record {
+  spec = refl;
+  feed = refl;
+  factors = refl;
+  heard = held_stay s.corked on (is_short s.queue) (is_short s.queue) s.queue.held n k l;
+}
+unaltered_sounds StreamMessage.flush s n k l = record {
+  spec = refl;
+  feed = refl;
+  factors = refl;
+  heard = all_gone s.corked (is_short s.queue) (is_short (Stream.queue (flushed s))) s.queue.held n k l;
+}
+unaltered_sounds StreamMessage.trigger s n k l = record {
+  spec = refl;
+  feed = refl;
+  factors = refl;
+  heard = held_stay s.corked s.corked (is_short s.queue) (is_short (Stream.queue (triggered s))) s.queue.held n k l;
+}
+unaltered_sounds StreamMessage.prebuf s n k l = record {
+  spec = refl;
+  feed = refl;
+  factors = refl;
+  heard = held_stay s.corked s.corked (is_short s.queue) (is_short (Stream.queue (prebuffered s))) s.queue.held n k l;
+}
+unaltered_sounds (StreamMessage.drain tag) s n k l = record {
+  spec = refl;
+  feed = refl;
+  factors = refl;
+  heard = held_stay s.corked s.corked (is_short s.queue) (is_short (Stream.queue (triggered s))) s.queue.held n k l;
+}
+unaltered_sounds (StreamMessage.attr attr) s n k l = record {
+  spec = refl;
+  feed = refl;
+  factors = refl;
+  heard = held_stay s.corked s.corked (is_short s.queue) (is_short (Stream.queue (with_attr s attr))) s.queue.held n k l;
+}
 unaltered_sounds (StreamMessage.factors factors) s n k l = absurd (omega (arith, l))
 
 -- a write, by what its queue answers

@@ -2,7 +2,7 @@
 ghost use Rattle.std.specs.Prelude.{◌≡◌, ◌≤◌, ℕ, List};
 ghost use Rattle.px_model.specs.Message.{StreamMessage};
 ghost use Rattle.px_stream.specs.Messages.{message_of, Suits};
-ghost use Rattle.px_stream.specs.Heard.{unaltered_of};
+ghost use Rattle.px_stream.specs.Heard.{none_heard, none_heard_after, unaltered_of, unaltered_unless};
 
 use crate::StreamMsg;
 use crate::state::StreamState;
@@ -21,15 +21,35 @@ impl StreamState {
                 ..
             } => self.unwritten(*seek, *offset, *frames, mixed),
             StreamMsg::Query { .. } => mixed,
-            StreamMsg::Attach { .. }
-            | StreamMsg::Cork { .. }
-            | StreamMsg::Flush
-            | StreamMsg::Trigger
-            | StreamMsg::Prebuf
-            | StreamMsg::Drain { .. }
-            | StreamMsg::Attr { .. }
-            | StreamMsg::Factors { .. } => 0,
+            StreamMsg::Attach { .. } | StreamMsg::Factors { .. } => 0,
+            StreamMsg::Cork { on } => self.unless(*on || self.queue.is_silent(), mixed),
+            StreamMsg::Flush => self.unless(true, mixed),
+            StreamMsg::Trigger | StreamMsg::Drain { .. } => {
+                self.unless(self.is_silent_with(false, self.prebuf), mixed)
+            }
+            StreamMsg::Prebuf => {
+                self.unless(self.is_silent_with(self.prebuf > 0, self.prebuf), mixed)
+            }
+            StreamMsg::Attr { attr } => {
+                let hold = self.queue.holds() && attr.prebuf > 0;
+                self.unless(self.is_silent_with(hold, attr.prebuf), mixed)
+            }
         }
+    }
+
+    // All `mixed` frames where nothing was heard and nothing is (`silent`), or the same frames were heard and are; else none.
+    fn unless(&self, silent: bool, mixed: u64) -> u64
+        ensures { result ≡ unaltered_unless (none_heard self.now.stream.corked self.now.stream.queue) silent mixed }
+    {
+        let before = self.corked || self.queue.is_silent();
+        if silent == before { mixed } else { 0 }
+    }
+
+    // Whether nothing would be heard of it if it waited for `prebuf` frames, or where `hold` is false for none.
+    fn is_silent_with(&self, hold: bool, prebuf: u32) -> bool
+        ensures { result ≡ none_heard self.now.stream.corked (record self.now.stream.queue { hold = hold; prebuf = prebuf }) }
+    {
+        self.corked || self.queue.is_silent_with(hold, prebuf)
     }
 
     // For a write.

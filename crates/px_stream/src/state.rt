@@ -29,7 +29,7 @@ pub(crate) struct StreamState {
     pub(crate) maxlength: u32,
     pub(crate) tlength: u32,
     pub(crate) minreq: u32,
-    prebuf: u32,
+    pub(crate) prebuf: u32,
     pub(crate) requested: u32,
     pub(crate) draining: VecDeque<u32>,
     pub(crate) run: Run,

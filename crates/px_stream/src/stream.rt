@@ -1,5 +1,5 @@
 // A stream, as its holders use it.
-ghost use Rattle.std.specs.Prelude.{◌≡◌, ◌≤◌, ◌+◌, ◌*◌, ◌∷◌, ◌⊎◌, [], ℕ, true, false, nat_lt, nat_le, length, All, FitsSigned, MatchOption, IfOk, OnOk};
+ghost use Rattle.std.specs.Prelude.{◌≡◌, ◌<◌, ◌≤◌, ◌+◌, ◌*◌, ◌^◌, ◌∷◌, ◌⊎◌, [], None, ℕ, true, false, nat_lt, nat_le, length, All, FitsSigned, MatchOption, IfOk, OnOk};
 ghost use Rattle.std.specs.Int.{w32};
 ghost use Rattle.px_block.specs.Given.{after_giving};
 ghost use Rattle.px_msg.specs.View.{sample_spec, opened};
@@ -9,7 +9,7 @@ ghost use Rattle.px_model.specs.Frame.{SampleSpec};
 ghost use Rattle.px_model.specs.Going.{after, ahead_of};
 ghost use Rattle.px_model.specs.Orderly.{IsNewStream};
 ghost use Rattle.px_model.specs.Turn.{has_ended, has_started, has_run_out, missing_of, request_of};
-ghost use Rattle.px_stream.specs.Heard.{unaltered_of};
+ghost use Rattle.px_stream.specs.Heard.{heard_at, unaltered_of};
 ghost use Rattle.px_stream.specs.HeldStream.{IsMixable};
 ghost use Rattle.px_stream.specs.Messages.{message_of, Suits, blocks_with, room_for, answer_for};
 ghost use Rattle.px_stream.specs.Plain.{plain_of};
@@ -85,8 +85,9 @@ impl Stream {
         self.state.apply(message, mixed, blocks)
     }
 
-    /// How many of the next `mixed` frames, all that its sink has mixed past its read index, sound as before once a message is applied: all of them
-    /// where nothing changes or a write is refused, those before the frames of a write, and none for every other message. Takes no memory.
+    /// How many of the next `mixed` frames, all that its sink has mixed past its read index, sound as before once a message is applied: those before
+    /// the frames of a write, or all where it is refused; all where nothing is heard before and after, or what is held is heard before and after;
+    /// else none. Takes no memory.
     pub fn unaltered(&self, message: &StreamMsg, mixed: u64) -> u64
         requires { Suits self.now.stream (message_of message.now) }
         ensures { result ≡ unaltered_of mixed (message_of message.now) self.now.stream }
@@ -164,6 +165,25 @@ impl Stream {
         ensures ticks { steps.new ≡ steps.old + length self.now.stream.feed * result }
     {
         self.state.frame_values(from, width, out, steps)
+    }
+
+    /// How many frames from `from` past the read index on are silent, at most `most`: nothing is heard there. Takes no memory.
+    pub fn silent_frames(&self, from: u32, most: u32) -> u32
+        ensures few { result ≤ most }
+        ensures silent { (j : ℕ) → j < result → heard_at self.now.stream (from + j) ≡ None }
+    {
+        self.state.silent_frames(from, most)
+    }
+
+    /// How many frames from `from` past the read index on are to be mixed before the next silence that is long enough to leave out, at most `most`.
+    /// Takes no memory.
+    pub fn frames_to_silence(&self, from: u32, most: u32) -> u32
+        requires some { 1 ≤ most }
+        requires near { from + most < 2 ^ 32 }
+        ensures some { 1 ≤ result }
+        ensures few { result ≤ most }
+    {
+        self.state.frames_to_silence(from, most)
     }
 
     /// The next index to write.
