@@ -5,3 +5,6 @@ pub mod Loops
 pub mod Sharing
 pub mod Packing
 pub mod Taking
+pub mod Turned
+pub mod Put
+pub mod Played
