@@ -113,8 +113,13 @@ class Running(unittest.TestCase):
         self.assertIn("status 0 was wanted, and 3 came", said)
         self.assertIn("the line 'pulse_rw: refused at 590: live 1\\n' was wanted, and 'oh\\n' came", said)
 
+    def test_a_topic_is_all_its_rows(self):
+        rows = [name for name in os.listdir(os.path.join(TOP, "conformance", "plans")) if name.endswith(".session")]
+        self.assertEqual(self.run_rows("", "plans", f"plans/{rows[0][:-8]}"), (0, f"{len(rows)} passed, 0 failed\n", ""))
+
     def test_other_words(self):
         self.assertEqual(self.run_rows("", "turns/none")[0::2], (1, "conformance/run: there is no row turns/none\n"))
+        self.assertEqual(self.run_rows("", "turn")[0::2], (1, "conformance/run: there is no row turn\n"))
         self.assertEqual(self.run_rows("", "--cut", "0")[0], 1)
         self.assertEqual(self.run_rows("", "--unknown")[0], 2)
 
