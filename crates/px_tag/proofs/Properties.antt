@@ -1,5 +1,5 @@
 -- Property lists keep their rules, and are what the table's entries say.
-use Rattle.std.proofs.Common.{◌≡◌, ℕ, ◌+◌, ◌≤◌, Bool, true, false, not, cond, ◌&&◌, ◌||◌, nat_eq, List, [], ◌∷◌, ◌++◌, length, map, take, Option, None, Some, refl, sym, ap, ◌∙◌, append_assoc, slice_get, get_or, is_some, nat_lt, leb-true, arith}
+use Rattle.std.proofs.Common.{◌≡◌, ℕ, ◌+◌, ◌≤◌, Bool, true, false, not, cond, ◌&&◌, ◌||◌, nat_eq, List, [], ◌∷◌, ◌++◌, length, map, take, Option, None, Some, refl, sym, ap, ◌∙◌, append_assoc, length-append, slice_get, get_or, is_some, nat_lt, leb-true, arith}
 use Rattle.std.specs.Prelude.{◌==◌, nat_le}
 use Rattle.std.proofs.lemmas.Bool.{eqb-true}
 use Rattle.std.specs.Global.{Vec}
@@ -7,10 +7,11 @@ use Rattle.std.specs.Option.{option_map}
 use Rattle.std.specs.Map.{lookup}
 use Rattle.std.proofs.lemmas.List.Sums.{AllPass-from_list_all, fold_more}
 use Rattle.std.proofs.lemmas.Option.{slice_get_within, get_or_from_slice_get, slice_get-map}
-use Rattle.indexmap.specs.IndexMap.{insert_entry, shift_remove_entry}
+use Rattle.indexmap.specs.IndexMap.{insert_entry, insert_all, shift_remove_entry}
 use Rattle.std.specs.Cmp.Lexicographic.{pointwise, bytes_decides}
 use Rattle.std.specs.List.{list_all}
-use Rattle.std.proofs.lemmas.List.{append-nil, take_more}
+use Rattle.std.proofs.lemmas.List.{append-nil, take_more, take-append-le}
+use Rattle.std.specs.List.{take-map}
 use Rattle.px_tag.specs.Item.{is_text}
 use Rattle.px_tag.specs.PropList.{Property, same_key, is_key, is_key_byte, is_property, is_proplist, has_key, is_distinct, value_of, with_value, without, with_all, with_missing, meaning}
 
@@ -278,3 +279,29 @@ taken_next list i p e =
     let within = slice_get_within list i p e in
     let at : get_or list i p ≡ p = get_or_from_slice_get list i p p e in
     take_more list i p within ∙ ap (λ (q : Property). take i list ++ q ∷ []) at
+
+-- ---- an update in place
+
+-- a key that is new leaves what was there in front
+pub front_with : (list : List Property) (key value : List ℕ) (n : ℕ) → has_key list key ≡ false → n ≤ length list → take n (with_value list key value) ≡ take n list
+front_with list key value n none within = ap (take n) (append_new list key value none) ∙ take-append-le n list ((key, value) ∷ []) within
+
+pub longer_with : (list : List Property) (key value : List ℕ) → has_key list key ≡ false → length list ≤ length (with_value list key value)
+longer_with list key value none = omega (arith, ap length (append_new list key value none), length-append list ((key, value) ∷ []))
+
+-- the first entries of a table are the first properties
+pub seen_front : (n : ℕ) (entries made : List Entry) (list : List Property) → made ≡ take n entries → take n (map seen entries) ≡ list → map seen made ≡ list
+seen_front n entries made list front first = ap (map seen) front ∙ sym (take-map seen n entries) ∙ first
+
+-- the entries of another table, each inserted in turn
+pub seen_insert_all : (entries others : List Entry) → map seen (insert_all (λ x y. pointwise nat_eq x.items y.items) entries others) ≡ with_all (map seen entries) (map seen others)
+seen_insert_all entries [] = refl
+seen_insert_all entries (e ∷ others) =
+    seen_insert_all (insert_entry (λ x y. pointwise nat_eq x.items y.items) entries e.0 e.1) others
+    ∙ ap (λ (l : List Property). with_all l (map seen others)) (seen_insert entries e.0 e.1)
+
+pub proplist_with_all : (list others : List Property) → list_all is_property others ≡ true → is_proplist list ≡ true → is_proplist (with_all list others) ≡ true
+proplist_with_all list [] all is = is
+proplist_with_all list (p ∷ others) all is =
+    let h = both (is_property p) (list_all is_property others) all in
+    proplist_with_all (with_value list p.0 p.1) others h.1 (proplist_with list p.0 p.1 h.0 is)

@@ -1,6 +1,6 @@
 //! Property lists.
 
-ghost use Rattle.std.specs.Prelude.{◌≡◌, ◌<◌, [], length, slice_get, IsTrue, IfOk, IfSome, OnOk, OnErr, if◌then◌else◌};
+ghost use Rattle.std.specs.Prelude.{◌≡◌, ◌<◌, ◌≤◌, ℕ, [], length, take, slice_get, IsTrue, IfOk, IfSome, OnOk, OnErr, if◌then◌else◌};
 ghost use Rattle.std.specs.Option.{option_map};
 ghost use Rattle.px_tag.specs.PropList.{is_key, is_value, is_property, is_proplist, has_key, value_of, with_value, without, with_all, with_missing, updated};
 
@@ -38,6 +38,16 @@ impl PropList {
             table: IndexMap::new(alloc),
             alloc,
         }
+    }
+
+    // An empty list with room for `count` properties.
+    fn with_room(alloc: Global, count: usize) -> Mem<Self>
+        ensures { IfOk result (λ made. made ≡ []) }
+    {
+        Ok(PropList {
+            table: IndexMap::with_capacity(alloc, count)?,
+            alloc,
+        })
     }
 
     /// How many keys it has. Takes no memory.
@@ -122,17 +132,21 @@ impl PropList {
     fn set_one_missing(&mut self, key: &[u8], value: &[u8]) -> Mem<()>
         requires key { IsTrue (is_key key.now) }
         requires value { IsTrue (is_value value.now) }
-        ensures { OnOk result (self.new ≡ (if has_key self.old key.now then self.old else with_value self.old key.now value.now)) }
+        ensures set { OnOk result (self.new ≡ (if has_key self.old key.now then self.old else with_value self.old key.now value.now)) }
+        ensures front { (before : ℕ) → before ≤ length self.old → take before self.new ≡ take before self.old }
+        ensures longer { length self.old ≤ length self.new }
     {
         if self.contains(key) {
             return Ok(());
         }
-        self.set(key, value)
+        self.set(key, value)?;
+        Ok(())
     }
 
-    // Sets each key of the other list that isn't there. Where memory runs out, some may be set.
+    // Sets each key of the other list that isn't there, last. Where memory runs out, some may be set.
     fn set_missing(&mut self, other: &PropList) -> Mem<()>
-        ensures { OnOk result (self.new ≡ with_missing self.old other.now) }
+        ensures set { OnOk result (self.new ≡ with_missing self.old other.now) }
+        ensures front { take (length self.old) self.new ≡ self.old }
     {
         for i in 0..other.len() {
             let (key, value) = other.property(i);
@@ -145,37 +159,53 @@ impl PropList {
     pub fn copy(&self) -> Mem<PropList>
         ensures { IfOk result (λ made. made ≡ self.now) }
     {
-        let mut made = PropList::new(self.alloc);
+        let mut made = PropList::with_room(self.alloc, self.len())?;
         made.set_all(self)?;
         Ok(made)
     }
 
-    // The list updated by another.
-    fn updated_by(&self, mode: Mode, other: &PropList) -> Mem<PropList>
-        ensures { IfOk result (λ made. made ≡ updated mode self.now other.now) }
+    // Becomes another list, or stays where memory runs out.
+    fn replace_by(&mut self, other: &PropList) -> Mem<()>
+        ensures set { OnOk result (self.new ≡ other.now) }
+        ensures unchanged { OnErr result (self.new ≡ self.old) }
     {
-        match mode {
-            Mode::Set => other.copy(),
-            Mode::Merge => {
-                let mut made = self.copy()?;
-                made.set_missing(other)?;
-                Ok(made)
-            }
-            Mode::Replace => {
-                let mut made = self.copy()?;
-                made.set_all(other)?;
-                Ok(made)
+        *self = other.copy()?;
+        Ok(())
+    }
+
+    // Gets each property of the other list whose key isn't there. Where memory runs out, nothing has changed.
+    fn merge(&mut self, other: &PropList) -> Mem<()>
+        ensures set { OnOk result (self.new ≡ with_missing self.old other.now) }
+        ensures unchanged { OnErr result (self.new ≡ self.old) }
+    {
+        let before = self.len();
+        match self.set_missing(other) {
+            Ok(()) => Ok(()),
+            Err(error) => {
+                self.table.truncate(before);
+                Err(error)
             }
         }
     }
 
-    /// Updates the list by another, as `pa_proplist_update` does. Where memory runs out, nothing has
-    /// changed.
+    // Takes over all properties of the other list. Where memory runs out, nothing has changed.
+    fn append(&mut self, mut other: PropList) -> Mem<()>
+        ensures set { OnOk result (self.new ≡ with_all self.old other) }
+        ensures unchanged { OnErr result (self.new ≡ self.old) }
+    {
+        self.table.append(&mut other.table)?;
+        Ok(())
+    }
+
+    /// Updates the list in place by another, as `pa_proplist_update` does. Where memory runs out, nothing has changed.
     pub fn update(&mut self, mode: Mode, other: &PropList) -> Mem<()>
         ensures updated { OnOk result (self.new ≡ updated mode self.old other.now) }
         ensures unchanged { OnErr result (self.new ≡ self.old) }
     {
-        *self = self.updated_by(mode, other)?;
-        Ok(())
+        match mode {
+            Mode::Set => self.replace_by(other),
+            Mode::Merge => self.merge(other),
+            Mode::Replace => self.append(other.copy()?),
+        }
     }
 }

@@ -6,4 +6,4 @@ use Rattle.px_tag.proofs.proplist.PropList.copy.Goals as goal
 pub returns : goal.returns
 returns c =
     let rules : is_proplist c.args.self.now ≡ true = rw (← c.self.view_is) c.self.invariant in
-    rw (c.in_ok-set_all.ensures, c.new-made.ensures) (copies c.args.self.now rules)
+    rw (c.in_ok-set_all.ensures, c.in_ok-made.ensures) (copies c.args.self.now rules)
