@@ -1,6 +1,6 @@
 pub mod WhatBecame
-mod Nearest
-mod Added
+mod Walked
+mod Entries
 pub mod Unchanged
 pub mod Deaf
 mod Parts

@@ -1,5 +1,5 @@
--- Objects with the bytes of their infos, and the events between two moments of which all infos are given.
-use Rattle.std.specs.Prelude.{◌≤◌, ℕ, Bool, cond, ◌&&◌, nat_eq, nat_le, nat_lt, List, [], ◌∷◌, Option, IsTrue, IfSome, All, option_map}
+-- The infos of one moment with their bytes, and the events between two moments of which all infos are given.
+use Rattle.std.specs.Prelude.{◌≤◌, ℕ, nat_eq, List, Option, IsTrue, IfSome, All}
 use Rattle.std.specs.List.{find}
 use Rattle.px_tag.specs.Item.{IsText, is_text}
 use Rattle.px_reply.specs.declared.info.SinkInfo.{SinkInfo}
@@ -13,7 +13,6 @@ use Rattle.px_subscribe.specs.declared.event.Facility.{Facility}
 use Rattle.px_subscribe.specs.declared.event.Facility.TheVariants.{Sink, Input, Client}
 use Rattle.px_subscribe.specs.declared.event.Event.{Event}
 use Rattle.px_subscribe.specs.declared.between.Counts.{Counts}
-use Rattle.px_subscribe.specs.declared.info_bytes.InfoBytes.{InfoBytes}
 use Rattle.px_subscribe.specs.Became.{events_of}
 use Rattle.px_subscribe.specs.Infos.{Infos, Given}
 
@@ -68,6 +67,16 @@ pub record AreWritable (infos : InfoLists) : Type 0 where
 abbrev pub given_by : Counts → Given
 given_by counts = record { sinks = counts.sinks; inputs = counts.inputs; clients = counts.clients }
 
+-- the bytes of each, at the server's version
+abbrev pub sink_bytes : SinkInfo → List ℕ
+sink_bytes info = with_sink SERVER_VERSION (reply_to 0) info
+
+abbrev pub input_bytes : InputInfo → List ℕ
+input_bytes info = with_input (reply_to 0) info
+
+abbrev pub client_bytes : ClientInfo → List ℕ
+client_bytes info = with_client (reply_to 0) info
+
 -- the events of each facility
 abbrev pub sinks_events : List SinkInfo → List SinkInfo → ℕ → List Event
 sinks_events before after given = events_of Sink (with_sink SERVER_VERSION (reply_to 0)) (sink_at before) (sink_at after) given
@@ -77,33 +86,3 @@ inputs_events before after given = events_of Input (with_input (reply_to 0)) (in
 
 abbrev pub clients_events : List ClientInfo → List ClientInfo → ℕ → List Event
 clients_events before after given = events_of Client (with_client (reply_to 0)) (client_at before) (client_at after) given
-
--- ---- each as an index and bytes
-
-abbrev pub sink_info_bytes : SinkInfo → InfoBytes
-sink_info_bytes info = record { index = info.index; bytes = with_sink SERVER_VERSION (reply_to 0) info }
-
-abbrev pub input_info_bytes : InputInfo → InfoBytes
-input_info_bytes info = record { index = info.index; bytes = with_input (reply_to 0) info }
-
-abbrev pub client_info_bytes : ClientInfo → InfoBytes
-client_info_bytes info = record { index = info.index; bytes = with_client (reply_to 0) info }
-
-abbrev pub is_at : ℕ → InfoBytes → Bool
-is_at i t = nat_eq t.index i
-
-abbrev pub bytes_at : List InfoBytes → ℕ → Option (List ℕ)
-bytes_at infos i = option_map (λ t. t.bytes) (find (is_at i) infos)
-
--- the events of the objects of a facility
-abbrev pub events_in_bytes : Facility → List InfoBytes → List InfoBytes → ℕ → List Event
-events_in_bytes facility before after given = events_of facility (λ bytes. bytes) (bytes_at before) (bytes_at after) given
-
--- ---- the least index from one on, or the end where none lies below it
-
-abbrev pub nearer : ℕ → InfoBytes → ℕ → ℕ
-nearer from t end = cond (nat_le from t.index && nat_lt t.index end) t.index end
-
-abbrev pub next_in : List InfoBytes → ℕ → ℕ → ℕ
-next_in [] from end = end
-next_in (t ∷ infos) from end = next_in infos from (nearer from t end)

@@ -3,5 +3,6 @@ pub mod Announce
 pub mod Infos
 pub mod Became
 pub mod InfoBytes
+pub mod Walk
 pub mod Scene
 pub mod Moments

@@ -7,13 +7,11 @@ ghost use Rattle.px_ctl_info.specs.Clients.{SERVER_VERSION};
 ghost use Rattle.px_subscribe.specs.declared.event.Facility.TheVariants.{Sink, Input, Client, Server};
 ghost use Rattle.std.specs.Option.{option_map};
 ghost use Rattle.px_subscribe.specs.Infos.{Given};
-ghost use Rattle.px_subscribe.specs.Became.{NO_INDEX, became, event, events_at, events_of, events_between};
-ghost use Rattle.px_subscribe.specs.InfoBytes.{IsWritableSink, IsWritableInput, IsWritableClient, IsWritableServer, AreWritable, infos_in, given_by, sinks_events, inputs_events, clients_events, bytes_at, events_in_bytes};
+ghost use Rattle.px_subscribe.specs.Became.{NO_INDEX, became, event, events_between};
+ghost use Rattle.px_subscribe.specs.InfoBytes.{IsWritableSink, IsWritableInput, IsWritableClient, IsWritableServer, AreWritable, infos_in, given_by, sinks_events, inputs_events, clients_events};
 
 use crate::event::{Event, Facility, Kind};
-use crate::info_bytes::{
-    InfoBytes, bytes_at, clients_in_bytes, inputs_in_bytes, next_in, sinks_in_bytes,
-};
+use crate::walk::add_all;
 use px_reply::{ClientInfo, InputInfo, ServerInfo, SinkInfo};
 use px_tag::Packet;
 use px_types::limits::{NO_INDEX, PROTOCOL_VERSION};
@@ -68,48 +66,6 @@ fn became(before: Option<&[u8]>, after: Option<&[u8]>) -> Option<Kind>
     }
 }
 
-// Adds the event of one object, where there is one.
-fn add_at(
-    events: &mut Vec<Event>,
-    facility: Facility,
-    before: &[InfoBytes],
-    after: &[InfoBytes],
-    index: u32,
-) -> Mem<()>
-    ensures { OnOk result (events.new.items ≡ events.old.items ++ events_at facility (λ bytes. bytes) (bytes_at before.now) (bytes_at after.now) index) }
-{
-    if let Some(kind) = became(bytes_at(before, index), bytes_at(after, index)) {
-        events.push(Event {
-            facility,
-            kind,
-            index,
-        })?;
-    }
-    Ok(())
-}
-
-// Adds the events of all objects of a facility, in rising index: an object that exists at neither moment has none.
-fn add_all(
-    events: &mut Vec<Event>,
-    facility: Facility,
-    before: &[InfoBytes],
-    after: &[InfoBytes],
-    given: usize,
-) -> Mem<()>
-    ensures { OnOk result (events.new.items ≡ events.old.items ++ events_in_bytes facility before.now after.now given) }
-{
-    let mut from = 0;
-    while from < given {
-        let next = next_in(after, from, next_in(before, from, given));
-        if next >= given {
-            return Ok(());
-        }
-        add_at(events, facility, before, after, next as u32)?;
-        from = next + 1;
-    }
-    Ok(())
-}
-
 // The bytes of the server's info, in a reply.
 fn server_in_bytes(alloc: Global, info: &Option<ServerInfo>) -> Mem<Option<Packet>>
     requires { IfSome info.now IsWritableServer }
@@ -158,7 +114,6 @@ fn add_server(
 }
 
 // The events of all sinks.
-#[tactic(auto, using(crate::proofs::Nearest::sinks_in_bytes_so))]
 fn add_sinks(
     alloc: Global,
     events: &mut Vec<Event>,
@@ -170,14 +125,10 @@ fn add_sinks(
     requires after { All IsWritableSink after.now }
     ensures { OnOk result (events.new.items ≡ events.old.items ++ sinks_events before.now after.now given) }
 {
-    let before = sinks_in_bytes(alloc, before)?;
-    let after = sinks_in_bytes(alloc, after)?;
-    add_all(events, Facility::Sink, &before, &after, given)?;
-    Ok(())
+    add_all(alloc, events, Facility::Sink, before, after, given)
 }
 
 // The events of all inputs.
-#[tactic(auto, using(crate::proofs::Nearest::inputs_in_bytes_so))]
 fn add_inputs(
     alloc: Global,
     events: &mut Vec<Event>,
@@ -189,14 +140,17 @@ fn add_inputs(
     requires after { All IsWritableInput after.now }
     ensures { OnOk result (events.new.items ≡ events.old.items ++ inputs_events before.now after.now given) }
 {
-    let before = inputs_in_bytes(alloc, before)?;
-    let after = inputs_in_bytes(alloc, after)?;
-    add_all(events, Facility::Input, &before, &after, given as usize)?;
-    Ok(())
+    add_all(
+        alloc,
+        events,
+        Facility::Input,
+        before,
+        after,
+        given as usize,
+    )
 }
 
 // The events of all clients.
-#[tactic(auto, using(crate::proofs::Nearest::clients_in_bytes_so))]
 fn add_clients(
     alloc: Global,
     events: &mut Vec<Event>,
@@ -208,10 +162,14 @@ fn add_clients(
     requires after { All IsWritableClient after.now }
     ensures { OnOk result (events.new.items ≡ events.old.items ++ clients_events before.now after.now given) }
 {
-    let before = clients_in_bytes(alloc, before)?;
-    let after = clients_in_bytes(alloc, after)?;
-    add_all(events, Facility::Client, &before, &after, given as usize)?;
-    Ok(())
+    add_all(
+        alloc,
+        events,
+        Facility::Client,
+        before,
+        after,
+        given as usize,
+    )
 }
 
 /// The events between two moments: of each sink, input and client that is new, is gone, or has an info of other bytes, in
