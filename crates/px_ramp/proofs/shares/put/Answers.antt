@@ -24,7 +24,7 @@ change-requires-clause-values g c =
     let whole : length c.args.values.now ≡ length c.args.cache.now.runs * 1 = omega (arith, c.requires.size) in
     subst (λ (n : ℕ). (i : ℕ) → i < length c.args.cache.now.runs → AreValues true (run_at c.args.cache.now.runs i).sums 0 (run_of n c.args.values.now i) (slice_index c.args.factors.now i)) (sym one)
     (values_fit c.args.cache.now c.args.values.now c.args.factors.now 0 1
-    whole (omega (arith, c.requires.one)) c.requires.words c.requires.room
+    whole (omega (arith, c.requires.one)) c.requires.words (λ j k fed _ inside. c.requires.room j k fed inside)
     (λ i fed. subst (λ (numbers : List ℕ). slice_index numbers i < 2 ^ 32) c.requires.same (omega (arith, c.type_inv.numbers i))) true)
 
 pub returns-clause-sums : goal.returns-clause-sums
@@ -37,5 +37,5 @@ pub returns-clause-little : goal.returns-clause-little
 returns-clause-little g c = λ i fed.
     let whole : length c.args.values.now ≡ length c.args.cache.now.runs * 1 = omega (arith, c.requires.size) in
     little c.args.cache.now c.args.values.now c.args.factors.now 0 1
-    whole (omega (arith, c.requires.one)) c.requires.words c.requires.room
+    whole (omega (arith, c.requires.one)) c.requires.words (λ j k fed _ inside. c.requires.room j k fed inside)
     (λ j here. subst (λ (numbers : List ℕ). slice_index numbers j < 2 ^ 32) c.requires.same (omega (arith, c.type_inv.numbers j))) i 0 fed
