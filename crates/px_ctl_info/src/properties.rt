@@ -176,6 +176,31 @@ pub(crate) fn updated(mut list: PropList, mode: Mode, other: &PropList) -> px_ta
     Ok(list)
 }
 
+// A client's list, updated by `other` in a mode. It is copied only where some of it can stay.
+fn client_updated(
+    alloc: Global,
+    client: Option<&Client>,
+    mode: Mode,
+    other: &PropList,
+) -> px_tag::Mem<PropList>
+    ensures { IfOk result (λ made. made ≡ updated mode (list_of (option_map (λ client. client.now) client.entry)) other.now) }
+{
+    match mode {
+        Mode::Set => other.copy(),
+        Mode::Merge | Mode::Replace => updated(list_of(alloc, client)?, mode, other),
+    }
+}
+
+// Whether a client's list has each key of a command. Takes no memory.
+fn client_has_keys(alloc: Global, client: Option<&Client>, keys: &Keys) -> bool
+    ensures { result ≡ has_keys (list_of (option_map (λ client. client.now) client.entry)) keys.now }
+{
+    match client {
+        None => has_keys(&PropList::new(alloc), keys),
+        Some(client) => has_keys(&client.list, keys),
+    }
+}
+
 // A plain reply, and a new list of a connection's client.
 fn named<M: Drop, G: Drop>(
     alloc: Global,
@@ -204,7 +229,7 @@ pub fn update_client<M: Drop, G: Drop>(
     ensures { HandledAs result (update_client (option_map (λ client. client.now) client.entry) me.now tag number list.now) }
 {
     let mode = present(mode_of(number), ErrorCode::Invalid)?;
-    let made = updated(list_of(alloc, client)?, mode, list)?;
+    let made = client_updated(alloc, client, mode, list)?;
     named(alloc, me, tag, made)
 }
 
@@ -219,8 +244,7 @@ pub fn remove_client<M: Drop, G: Drop>(
 ) -> Result<StepOutcome<M, G>, Refusal>
     ensures { HandledAs result (remove_client (option_map (λ client. client.now) client.entry) me.now tag keys.now) }
 {
-    let list = list_of(alloc, client)?;
-    check(has_keys(&list, keys), ErrorCode::NoEntity)?;
-    let made = without_keys(alloc, list, keys)?;
+    check(client_has_keys(alloc, client, keys), ErrorCode::NoEntity)?;
+    let made = without_keys(alloc, list_of(alloc, client)?, keys)?;
     named(alloc, me, tag, made)
 }
