@@ -8,6 +8,7 @@ use Rattle.std.proofs.lemmas.Option.{slice_get-map, slice_get-get_or, same_Some}
 use Rattle.px_header.specs.declared.header.Header.{Header}
 use Rattle.px_header.specs.declared.header.SinkSpec.{SinkSpec}
 use Rattle.px_header.specs.HeaderRules.{IsHeader, IsSink, AreSinks}
+use Rattle.px_frame.specs.Progress.{Progress}
 use Rattle.px_msg.specs.View.{sample_spec}
 use Rattle.px_model.specs.Stream.{Stream}
 use Rattle.px_model.proofs.Rounds.{empty_keeps}
@@ -17,7 +18,6 @@ use Rattle.px_core.proofs.StepLaws.{new_keeps}
 use Rattle.px_sinks.proofs.Sinks.{is_of_header}
 use Rattle.px_world.specs.declared.fault.WorldFault.{WorldFault}
 use Rattle.px_world.specs.declared.fault.WorldFault.TheVariants.{Live, NotLive, NoSink, Worn, TooMany, NoMemory}
-use Rattle.px_world.specs.declared.doors.Door.{Door}
 use Rattle.px_world.specs.declared.playing.Playing.{Playing}
 use Rattle.px_world.specs.World.{Mixer, new_mixer, new_world}
 use Rattle.px_world.specs.Playing.{mixer_of}
@@ -43,7 +43,7 @@ consistent-first header h = record {
 }
 
 -- the world before its first event
-pub begins : (header : Header) (core : State Stream) (doors : List Door) (mixers : List Playing) → core ≡ new_state header → doors ≡ [] → map mixer_of mixers ≡ map new_mixer header.sinks
+pub begins : (header : Header) (core : State Stream) (doors : List (ℕ × Progress)) (mixers : List Playing) → core ≡ new_state header → doors ≡ [] → map mixer_of mixers ≡ map new_mixer header.sinks
     → StandsFor (running_of core doors mixers) (new_world header)
 begins header core doors mixers c d m = stands-first header (running_of core doors mixers) c d m
 

@@ -1,10 +1,7 @@
 -- What the events of a connection do, from what their parts do.
-use Rattle.std.proofs.Common.{◌≡◌, ◌<◌, ℕ, true, List, [], ◌∷◌, ◌++◌, map, length, Option, None, Some, Result, Ok, Err, refl, ap, sym, subst, ◌∙◌, append-nil}
-use Rattle.std.specs.Prelude.{All, IfOk, OnOk}
-use Rattle.std.specs.List.{position, AllByRecursion}
-use Rattle.std.specs.Option.{is_some}
-use Rattle.std.proofs.lemmas.Option.{none-some}
-use Rattle.std.proofs.lemmas.List.Quantifiers.{position-Some}
+use Rattle.std.proofs.Common.{◌≡◌, List, [], ◌∷◌, ◌++◌, map, Option, None, Some, Result, Ok, Err, refl, ap, sym, subst, ◌∙◌, append-nil}
+use Rattle.std.specs.Prelude.{All}
+use Rattle.std.specs.List.{AllByRecursion}
 use Rattle.px_types.specs.declared.ids.ConnId.{ConnId}
 use Rattle.px_types.specs.declared.ids.SinkId.{SinkId}
 use Rattle.px_frame.specs.declared.fault.FrameError.{FrameError}
@@ -22,16 +19,9 @@ use Rattle.px_core.specs.Connecting.{going_on, ended}
 use Rattle.px_core.specs.Consistency.{IsStep, Spares}
 use Rattle.px_core.specs.Parcels.{Takes}
 use Rattle.px_core.specs.Step.{Step, frame, broken, close, sweep, stepped, effects_of, stepped_by, effects_by}
-use Rattle.px_world.specs.declared.doors.Door.{Door}
-use Rattle.px_world.specs.declared.fault.WorldFault.TheVariants.{Live, NotLive}
-use Rattle.px_session.specs.declared.event.Event.TheVariants.{Bytes}
-use Rattle.px_world.specs.World.{World, Link, Mixer, link_of, received_of}
-use Rattle.px_world.specs.Admission.{refusal_of, if_new, if_named}
-use Rattle.px_world.specs.Event.{bytes_steps, links_after}
-use Rattle.px_world.specs.Parts.{Does}
-use Rattle.px_world.specs.Running.{is_door, Open, AreDistinct, steps_given}
+use Rattle.px_world.specs.World.{Mixer}
+use Rattle.px_world.specs.Running.{steps_given}
 use Rattle.px_world.specs.Consistency.{HasStream, AreConsistent}
-use Rattle.px_world.proofs.Openings.{door-absent, refused-there}
 use Rattle.px_world.proofs.Going.{all-first, all-rest}
 use Rattle.px_world.proofs.Consistent.{consistent-steps}
 
@@ -52,30 +42,6 @@ close-silent {P} spec_of state conn = go (going_on state.connections conn)
     go : (o : Option Connection) → outcome_effects (Some conn) (ended {P = P} o None 0 0) ≡ []
     go None = refl
     go (Some c) = refl
-
--- ---- a door that is there
-
-pub refused-found : (doors : List Door) (links : List Link) (conn : ConnId) (i : ℕ) → position (is_door conn) doors ≡ Some i → Open doors links
-    → (if_new (link_of links conn) ≡ Some Live) × (if_named (link_of links conn) ≡ None)
-refused-found [] links conn i found opened = absurd (none-some i found)
-refused-found (door ∷ doors) links conn i found opened = refused-there (door ∷ doors) links opened conn i door found
-
--- a link has the number exactly where a door has it
-named_one : (o : Option Link) → if_named o ≡ None → true ≡ is_some o
-named_one None e = absurd (none-some NotLive (sym e))
-named_one (Some link) e = refl
-
-pub found-named : (doors : List Door) (links : List Link) (conn : ConnId) (o : Option ℕ) → o ≡ position (is_door conn) doors → Open doors links → is_some o ≡ is_some (link_of links conn)
-found-named doors links conn None e opened = sym (ap is_some (door-absent doors links opened conn (sym e)))
-found-named doors links conn (Some i) e opened = named_one (link_of links conn) (refused-found doors links conn i (sym e) opened).1
-
--- where it was found among all of them
-pub found-by : (conn : ConnId) (slice all : List Door) (o : Option ℕ) → slice ≡ all → o ≡ position (is_door conn) slice → position (is_door conn) all ≡ o
-found-by conn slice all o e p = ap (position (is_door conn)) (sym e) ∙ sym p
-
-pub position-within : (doors : List Door) (conn : ConnId) (i : ℕ) → position (is_door conn) doors ≡ Some i → i < length doors
-position-within [] conn i found = absurd (none-some i found)
-position-within (door ∷ doors) conn i found = (position-Some (is_door conn) (door ∷ doors) i door found).0
 
 -- ---- the steps of a connection can be, and hand out nothing
 
@@ -128,20 +94,3 @@ module _ (core next last : State Stream) (mixers : List Mixer) (h : AreConsisten
       let first : AreConsistent next mixers =
       subst (λ t. AreConsistent t mixers) (sym e) (consistent-steps core mixers (steps_given conn given) h (given-are conn given bodies) (given-take conn given) (λ sink. given-spare sink conn given)) in
       subst (λ t. AreConsistent t mixers) (sym l) (consistent-steps next mixers (sweep ∷ []) first (tt, tt) (tt, tt) (λ sink. (tt, tt)))
-
--- ---- a frame that was passed over
-
-pub does-passed : {E : Type 0} (before after : State Stream) (doors later : List Door) (conn : ConnId) (bytes : List ℕ) (steps : List (Step Stream)) (given : Result (List Effect) E)
-    → OnOk given (after ≡ stepped_by Stream.spec before (steps ++ sweep ∷ []))
-    → IfOk given (λ effects. effects ≡ effects_by Stream.spec before (steps ++ sweep ∷ []))
-    → ((w : World) → Open doors w.links → refusal_of w (Bytes conn bytes) ≡ None)
-    → ((w : World) → Open doors w.links → bytes_steps conn (received_of (link_of w.links conn)) bytes ≡ steps)
-    → ((w : World) → Open doors w.links → AreDistinct w.links → Open later (links_after w.links (Bytes conn bytes)))
-    → IfOk given (λ effects. (w : World) → Open doors w.links → AreDistinct w.links → Does before after later w (Bytes conn bytes) effects)
-does-passed before after doors later conn bytes steps (Ok effects) core caused admitted same opens = λ w opened distinct. record {
-  admitted = admitted w opened;
-  core = core ∙ ap (λ l. stepped_by Stream.spec before (l ++ sweep ∷ [])) (sym (same w opened));
-  opened = opens w opened distinct;
-  caused = caused ∙ ap (λ l. effects_by Stream.spec before (l ++ sweep ∷ [])) (sym (same w opened));
-}
-does-passed before after doors later conn bytes steps (Err fault) core caused admitted same opens = tt

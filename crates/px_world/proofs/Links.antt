@@ -1,10 +1,9 @@
--- The links with one number, and the doors that are open to them.
-use Rattle.std.proofs.Common.{◌≡◌, ℕ, zero, suc, ◌<◌, ◌≤◌, Bool, true, false, cond, not, List, [], ◌∷◌, ◌++◌, length, get_or, set, map, filter, Option, None, Some, refl, ap, sym, subst, ◌∙◌, arith, ⊎_elim}
-use Rattle.std.specs.Prelude.{nat_eq, nat_lt}
-use Rattle.std.specs.List.{find, position, position_or_len, remove}
-use Rattle.std.proofs.lemmas.Bool.{cases_Bool, cond-true, cond-false, cond_both, eqb-true, eqb-false, ltb-false, ne_eqb}
-use Rattle.std.proofs.lemmas.Option.{none-some, slice_get_past}
-use Rattle.std.proofs.lemmas.List.Folds.{find_at}
+-- The links with one number.
+use Rattle.std.proofs.Common.{◌≡◌, ℕ, Bool, true, false, cond, not, List, [], ◌∷◌, ◌++◌, map, filter, Option, None, Some, refl, ap, sym, subst, ◌∙◌, ⊎_elim}
+use Rattle.std.specs.Prelude.{nat_eq, option_map}
+use Rattle.std.specs.List.{find}
+use Rattle.std.proofs.lemmas.Bool.{cases_Bool, cond-true, cond-false, cond_both, eqb-true, eqb-false, ne_eqb}
+use Rattle.std.proofs.lemmas.Option.{none-some, same_Some}
 use Rattle.px_types.specs.declared.ids.ConnId.{ConnId}
 use Rattle.px_session.specs.declared.event.Event.{Event}
 use Rattle.px_session.specs.declared.event.Event.TheVariants.{Connect, Bytes, Close, Cut, Turn, Collect, Stop}
@@ -12,16 +11,12 @@ use Rattle.px_world.specs.World.{World, Link, is_of, link_of}
 use Rattle.px_world.specs.declared.fault.WorldFault.TheVariants.{Live}
 use Rattle.px_world.specs.Admission.{if_new, refusal_of}
 use Rattle.px_world.specs.Event.{with_bytes, links_after}
-use Rattle.px_world.specs.declared.doors.Door.{Door}
-use Rattle.px_world.specs.Running.{is_door, Opens, Open, AreDistinct}
+use Rattle.px_world.specs.Running.{AreDistinct}
 
 -- ---- one number
 
-same-test : (conn : ConnId) (door : Door) (link : Link) → Opens door link → is_of conn link ≡ is_door conn door
-same-test conn door link opens = ap (λ (c : ConnId). nat_eq c.0 conn.0) (sym opens.same)
-
 -- numbers that are equal name one link
-same-link : (links : List Link) (a b : ConnId) → a.0 ≡ b.0 → link_of links a ≡ link_of links b
+pub same-link : (links : List Link) (a b : ConnId) → a.0 ≡ b.0 → link_of links a ≡ link_of links b
 same-link links a b e = ap (λ n. find (λ link. nat_eq (Link.conn link).0 n) links) e
 
 -- ---- a number that no link has
@@ -32,21 +27,6 @@ absent-rest conn link links none = go (is_of conn link) refl
     go : (b : Bool) → is_of conn link ≡ b → (is_of conn link ≡ false) × (link_of links conn ≡ None)
     go true e = absurd (none-some link (sym none ∙ cond-true (is_of conn link) (Some link) (link_of links conn) e))
     go false e = (e, sym (cond-false (is_of conn link) (Some link) (link_of links conn) e) ∙ none)
-
-absent-bytes : (conn : ConnId) (bytes : List ℕ) (links : List Link) → link_of links conn ≡ None → map (with_bytes conn bytes) links ≡ links
-absent-bytes conn bytes [] none = refl
-absent-bytes conn bytes (link ∷ links) none =
-    let rest = absent-rest conn link links none in
-    let head : with_bytes conn bytes link ≡ link = cond-false (is_of conn link) (record link { received = link.received ++ bytes }) link rest.0 in
-    ap (λ l. l ∷ map (with_bytes conn bytes) links) head ∙ ap (λ ls. link ∷ ls) (absent-bytes conn bytes links rest.1)
-
-absent-close : (conn : ConnId) (links : List Link) → link_of links conn ≡ None → filter (λ link. not (is_of conn link)) links ≡ links
-absent-close conn [] none = refl
-absent-close conn (link ∷ links) none =
-    let rest = absent-rest conn link links none in
-    let consistent : not (is_of conn link) ≡ true = ap not rest.0 in
-    cond-true (not (is_of conn link)) (link ∷ filter (λ x. not (is_of conn x)) links) (filter (λ x. not (is_of conn x)) links) consistent
-    ∙ ap (λ ls. link ∷ ls) (absent-close conn links rest.1)
 
 -- ---- numbers stay distinct
 
@@ -116,95 +96,75 @@ distinct-after w (Turn sink frames n) admitted distinct = distinct
 distinct-after w (Collect sink n) admitted distinct = distinct
 distinct-after w (Stop sink) admitted distinct = distinct
 
--- ---- the door at a place
+-- ---- the link that has a number, after an event
 
--- nothing is found where all are passed
-none-found : (n size : ℕ) → cond (nat_lt n size) (Some n) None ≡ None → size ≤ n
-none-found n size none =
+-- the links that a Close leaves
+abbrev pub without : ConnId → List Link → List Link
+without conn links = filter (λ link. not (is_of conn link)) links
+
+-- the link that has a number
+pub is-of-found : (links : List Link) (conn : ConnId) (found : Link) → link_of links conn ≡ Some found → is_of conn found ≡ true
+is-of-found [] conn found e = absurd (none-some found e)
+is-of-found (link ∷ links) conn found e =
     ⊎_elim
-    (λ (below : nat_lt n size ≡ true). absurd (none-some n (sym none ∙ cond-true (nat_lt n size) (Some n) None below)))
-    (λ (past : nat_lt n size ≡ false). ltb-false n size past)
-    (cases_Bool (nat_lt n size))
+    (λ (here : is_of conn link ≡ true).
+    subst (λ l. is_of conn l ≡ true) (same_Some link found (sym (cond-true (is_of conn link) (Some link) (link_of links conn) here) ∙ e)) here)
+    (λ (past : is_of conn link ≡ false).
+    is-of-found links conn found (sym (cond-false (is_of conn link) (Some link) (link_of links conn) past) ∙ e))
+    (cases_Bool (is_of conn link))
 
--- no door has the number
-unfound-in : (conn : ConnId) (doors : List Door) (links : List Link) → Open doors links → find (is_door conn) doors ≡ None → link_of links conn ≡ None
-unfound-in conn [] [] opened none = refl
-unfound-in conn [] (link ∷ links) opened none = absurd opened
-unfound-in conn (door ∷ doors) [] opened none = absurd opened
-unfound-in conn (door ∷ doors) (link ∷ links) opened none =
+-- a link's number isn't another
+pub apart-of : (conn other : ConnId) (link : Link) → is_of other link ≡ true → nat_eq conn.0 other.0 ≡ false → is_of conn link ≡ false
+apart-of conn other link is apart =
     ⊎_elim
-    (λ (e : is_door conn door ≡ true). absurd (none-some door (sym none ∙ cond-true (is_door conn door) (Some door) (find (is_door conn) doors) e)))
-    (λ (e : is_door conn door ≡ false).
-    cond-false (is_of conn link) (Some link) (link_of links conn) (same-test conn door link opened.0 ∙ e)
-    ∙ unfound-in conn doors links opened.1 (sym (cond-false (is_door conn door) (Some door) (find (is_door conn) doors) e) ∙ none))
-    (cases_Bool (is_door conn door))
+    (λ (same : is_of conn link ≡ true).
+    absurd (subst (λ (b : Bool). cond b (Unit {0}) ⊥) (sym (ap (λ n. nat_eq n other.0) (sym (eqb-true link.conn.0 conn.0 same)) ∙ is) ∙ apart) tt))
+    (λ (past : is_of conn link ≡ false). past)
+    (cases_Bool (is_of conn link))
 
-pub unfound : (conn : ConnId) (doors : List Door) (links : List Link) → Open doors links → position (is_door conn) doors ≡ None → link_of links conn ≡ None
-unfound conn doors links opened none =
-    unfound-in conn doors links opened
-    (find_at (is_door conn) doors
-    ∙ slice_get_past doors (position_or_len (is_door conn) doors) (none-found (position_or_len (is_door conn) doors) (length doors) none))
+-- after a Connect of a new number
+pub link-more : (links : List Link) (new : Link) (other : ConnId) → link_of links other ≡ None → link_of (links ++ new ∷ []) other ≡ cond (is_of other new) (Some new) None
+link-more [] new other none = refl
+link-more (link ∷ links) new other none =
+    ⊎_elim
+    (λ (here : is_of other link ≡ true). absurd (none-some link (sym none ∙ cond-true (is_of other link) (Some link) (link_of links other) here)))
+    (λ (past : is_of other link ≡ false).
+    cond-false (is_of other link) (Some link) (link_of (links ++ new ∷ []) other) past
+    ∙ link-more links new other (sym (cond-false (is_of other link) (Some link) (link_of links other) past) ∙ none))
+    (cases_Bool (is_of other link))
 
--- the link of the door that is found
-pub record IsAt (links : List Link) (conn : ConnId) (door : Door) : Type 0 where
-  pub link : Link
-  pub there : link_of links conn ≡ Some link
-  pub opens : Opens door link
+pub link-still : (links : List Link) (new : Link) (other : ConnId) → is_of other new ≡ false → link_of (links ++ new ∷ []) other ≡ link_of links other
+link-still [] new other apart = cond-false (is_of other new) (Some new) None apart
+link-still (link ∷ links) new other apart = ap (λ o. cond (is_of other link) (Some link) o) (link-still links new other apart)
 
-module _ (conn : ConnId) (d : Door) where
-  pub found-at : (doors : List Door) (links : List Link) (i : ℕ) → Open doors links → i < length doors → is_door conn (get_or doors i d) ≡ true
-      → ((k : ℕ) → k < i → is_door conn (get_or doors k d) ≡ false) → IsAt links conn (get_or doors i d)
-  found-at [] links i opened within is before = absurd (omega arith)
-  found-at (door ∷ doors) [] i opened within is before = absurd opened
-  found-at (door ∷ doors) (link ∷ links) zero opened within is before = record {
-    link = link;
-    there = cond-true (is_of conn link) (Some link) (link_of links conn) (same-test conn door link opened.0 ∙ is);
-    opens = opened.0;
-  }
-  found-at (door ∷ doors) (link ∷ links) (suc i) opened within is before =
-      let rest = found-at doors links i opened.1 (omega arith) is (λ k below. before (suc k) (omega arith)) in
-      record {
-        link = rest.link;
-        there = cond-false (is_of conn link) (Some link) (link_of links conn) (same-test conn door link opened.0 ∙ before 0 (omega arith)) ∙ rest.there;
-        opens = rest.opens;
-      }
+-- after bytes
+pub link-fed : (conn other : ConnId) (bytes : List ℕ) (links : List Link) → link_of (map (with_bytes conn bytes) links) other ≡ option_map (with_bytes conn bytes) (link_of links other)
+link-fed conn other bytes [] = refl
+link-fed conn other bytes (link ∷ links) =
+    ap (λ b. cond b (Some (with_bytes conn bytes link)) (link_of (map (with_bytes conn bytes) links) other)) (consistent-number conn other bytes link)
+    ∙ ap (λ o. cond (is_of other link) (Some (with_bytes conn bytes link)) o) (link-fed conn other bytes links)
+    ∙ sym (mapped (is_of other link))
+  where
+    mapped : (b : Bool) → option_map (with_bytes conn bytes) (cond b (Some link) (link_of links other)) ≡ cond b (Some (with_bytes conn bytes link)) (option_map (with_bytes conn bytes) (link_of links other))
+    mapped true = refl
+    mapped false = refl
 
-  -- more bytes came
-  pub fed-at : (bytes : List ℕ) (next : Door) (doors : List Door) (links : List Link) (i : ℕ) → Open doors links → AreDistinct links → i < length doors → is_door conn (get_or doors i d) ≡ true
-      → ((k : ℕ) → k < i → is_door conn (get_or doors k d) ≡ false)
-      → ((link : Link) → link_of links conn ≡ Some link → Opens next (record link { received = link.received ++ bytes }))
-      → Open (set doors i next) (map (with_bytes conn bytes) links)
-  fed-at bytes next [] links i opened distinct within is before fed = absurd (omega arith)
-  fed-at bytes next (door ∷ doors) [] i opened distinct within is before fed = absurd opened
-  fed-at bytes next (door ∷ doors) (link ∷ links) zero opened distinct within is before fed =
-      let test : is_of conn link ≡ true = same-test conn door link opened.0 ∙ is in
-      let absent : link_of links conn ≡ None = same-link links conn link.conn (sym (eqb-true link.conn.0 conn.0 test)) ∙ distinct.0 in
-      let more : with_bytes conn bytes link ≡ record link { received = link.received ++ bytes } = cond-true (is_of conn link) (record link { received = link.received ++ bytes }) link test in (
-        subst (Opens next) (sym more) (fed link (cond-true (is_of conn link) (Some link) (link_of links conn) test)),
-        subst (Open doors) (sym (absent-bytes conn bytes links absent)) opened.1,
-      )
-  fed-at bytes next (door ∷ doors) (link ∷ links) (suc i) opened distinct within is before fed =
-      let test : is_of conn link ≡ false = same-test conn door link opened.0 ∙ before 0 (omega arith) in
-      let same : with_bytes conn bytes link ≡ link = cond-false (is_of conn link) (record link { received = link.received ++ bytes }) link test in (
-        subst (Opens door) (sym same) opened.0,
-        fed-at bytes next doors links i opened.1 distinct.1 (omega arith) is (λ k below. before (suc k) (omega arith))
-            (λ l e. fed l (cond-false (is_of conn link) (Some link) (link_of links conn) test ∙ e)),
-      )
+-- after a Close
+pub link-gone : (conn : ConnId) (links : List Link) → link_of (without conn links) conn ≡ None
+link-gone conn [] = refl
+link-gone conn (link ∷ links) = go (is_of conn link) refl (link-gone conn links)
+  where
+    go : (b : Bool) → is_of conn link ≡ b → link_of (without conn links) conn ≡ None → link_of (cond (not b) (link ∷ without conn links) (without conn links)) conn ≡ None
+    go true e rest = rest
+    go false e rest = cond-false (is_of conn link) (Some link) (link_of (without conn links) conn) e ∙ rest
 
-  -- the client has closed
-  pub closed-at : (doors : List Door) (links : List Link) (i : ℕ) → Open doors links → AreDistinct links → i < length doors → is_door conn (get_or doors i d) ≡ true
-      → ((k : ℕ) → k < i → is_door conn (get_or doors k d) ≡ false) → Open (remove doors i) (filter (λ link. not (is_of conn link)) links)
-  closed-at [] links i opened distinct within is before = absurd (omega arith)
-  closed-at (door ∷ doors) [] i opened distinct within is before = absurd opened
-  closed-at (door ∷ doors) (link ∷ links) zero opened distinct within is before =
-      let test : is_of conn link ≡ true = same-test conn door link opened.0 ∙ is in
-      let absent : link_of links conn ≡ None = same-link links conn link.conn (sym (eqb-true link.conn.0 conn.0 test)) ∙ distinct.0 in
-      let gone : filter (λ x. not (is_of conn x)) (link ∷ links) ≡ links =
-      cond-false (not (is_of conn link)) (link ∷ filter (λ x. not (is_of conn x)) links) (filter (λ x. not (is_of conn x)) links) (ap not test) ∙ absent-close conn links absent in
-      subst (Open doors) (sym gone) opened.1
-  closed-at (door ∷ doors) (link ∷ links) (suc i) opened distinct within is before =
-      let test : is_of conn link ≡ false = same-test conn door link opened.0 ∙ before 0 (omega arith) in
-      let consistent : filter (λ x. not (is_of conn x)) (link ∷ links) ≡ link ∷ filter (λ x. not (is_of conn x)) links =
-      cond-true (not (is_of conn link)) (link ∷ filter (λ x. not (is_of conn x)) links) (filter (λ x. not (is_of conn x)) links) (ap not test) in
-      subst (Open (door ∷ remove doors i)) (sym consistent)
-      (opened.0, closed-at doors links i opened.1 distinct.1 (omega arith) is (λ k below. before (suc k) (omega arith)))
+pub link-left : (conn other : ConnId) (links : List Link) → nat_eq conn.0 other.0 ≡ false → link_of (without conn links) other ≡ link_of links other
+link-left conn other [] apart = refl
+link-left conn other (link ∷ links) apart = go (is_of conn link) refl (link-left conn other links apart)
+  where
+    unlike : is_of conn link ≡ true → is_of other link ≡ false
+    unlike e = ap (λ n. nat_eq n other.0) (eqb-true link.conn.0 conn.0 e) ∙ apart
+
+    go : (b : Bool) → is_of conn link ≡ b → link_of (without conn links) other ≡ link_of links other → link_of (cond (not b) (link ∷ without conn links) (without conn links)) other ≡ link_of (link ∷ links) other
+    go true e rest = rest ∙ sym (cond-false (is_of other link) (Some link) (link_of links other) (unlike e))
+    go false e rest = ap (λ o. cond (is_of other link) (Some link) o) rest

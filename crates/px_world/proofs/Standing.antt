@@ -1,5 +1,8 @@
 -- A world that runs goes on to stand for a world of the definitions.
 use Rattle.std.proofs.Common.{◌≡◌, [], map, None, ap, sym, subst, ◌∙◌}
+use Rattle.std.specs.Ordering.{nat_cmp}
+use Rattle.std.specs.BTreeMap.{is_at}
+use Rattle.std.specs.Map.{lookup}
 use Rattle.px_header.specs.declared.header.Header.{Header}
 use Rattle.px_session.specs.declared.event.Event.{Event}
 use Rattle.px_model.specs.Stream.{Stream}
@@ -8,14 +11,14 @@ use Rattle.px_core.specs.Step.{stepped_by}
 use Rattle.px_world.specs.World.{World, new_mixer, new_world}
 use Rattle.px_world.specs.Admission.{refusal_of}
 use Rattle.px_world.specs.Event.{all_steps, links_after, mixers_after, world_after}
-use Rattle.px_world.specs.Running.{Running, Open, StandsFor}
+use Rattle.px_world.specs.Running.{Running, Opens, Open, StandsFor}
 use Rattle.px_world.proofs.Links.{distinct-after}
 
 -- before the first event
 pub stands-first : (header : Header) (running : Running) → running.core ≡ new_state header → running.doors ≡ [] → running.mixers ≡ map new_mixer header.sinks → StandsFor running (new_world header)
 stands-first header running core doors mixers = record {
   core = core;
-  doors = subst (λ l. Open l []) (sym doors) tt;
+  doors = λ conn. subst (λ l. Opens (lookup (is_at (nat_cmp conn.0)) l) None) (sym doors) tt;
   distinct = tt;
   mixers = mixers;
 }

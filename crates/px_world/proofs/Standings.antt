@@ -2,6 +2,7 @@
 use Rattle.std.proofs.Common.{◌≡◌, ℕ, List, [], length, None, Some, Result, Ok, Err, ap, sym, subst, ◌∙◌}
 use Rattle.std.specs.Prelude.{OnOk}
 use Rattle.std.specs.List.{concat, slice_get}
+use Rattle.px_frame.specs.Progress.{Progress}
 use Rattle.px_session.specs.declared.event.Event.{Event}
 use Rattle.px_model.specs.Stream.{Stream}
 use Rattle.px_state.specs.declared.effect.Effect.{Effect}
@@ -10,7 +11,6 @@ use Rattle.px_world.specs.declared.fault.WorldFault.{WorldFault}
 use Rattle.px_world.specs.declared.fault.WorldFault.TheVariants.{Live, NotLive, NoSink, Worn, TooMany, NoMemory}
 use Rattle.px_world.specs.declared.outcome.Outcome.{Outcome}
 use Rattle.px_state.specs.State.{State}
-use Rattle.px_world.specs.declared.doors.Door.{Door}
 use Rattle.px_world.specs.World.{World, Mixer}
 use Rattle.px_world.specs.Admission.{refusal_of}
 use Rattle.px_world.specs.Event.{all_steps, links_after, mixers_after, change_at, set_to_fail, world_stopping, frames_played, stopped_by}
@@ -71,7 +71,7 @@ unless-map NoMemory A B f a = tt
 
 -- ---- what is kept where there is no sound
 
-pub consistent-silent : (core after : State Stream) (doors later : List Door) (mixers : List Mixer) (given : Result (List Effect) WorldFault) (result : Result Outcome WorldFault) → IsSilent given result
+pub consistent-silent : (core after : State Stream) (doors later : List (ℕ × Progress)) (mixers : List Mixer) (given : Result (List Effect) WorldFault) (result : Result Outcome WorldFault) → IsSilent given result
     → Answered given (λ _. Unit {0}) (λ _. (after ≡ core) × (later ≡ doors)) → OnOk given ((ms : List Mixer) → AreConsistent core ms → AreConsistent after ms) → AreConsistent core mixers → Answered result (λ _. AreConsistent after mixers) (λ _. AreConsistent after mixers)
 consistent-silent core after doors later mixers (Ok effects) (Ok outcome) silent stays consistent h = consistent mixers h
 consistent-silent core after doors later mixers (Ok effects) (Err fault) silent stays consistent h = absurd silent

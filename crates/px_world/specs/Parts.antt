@@ -1,12 +1,12 @@
 -- What an event does to the parts of a world that runs.
-use Rattle.std.specs.Prelude.{◌≡◌, Bool, true, false, List, [], map, None, Some, length, Result, Ok, Err}
+use Rattle.std.specs.Prelude.{◌≡◌, ℕ, Bool, true, false, List, [], map, None, Some, length, Result, Ok, Err}
 use Rattle.std.specs.List.{concat}
+use Rattle.px_frame.specs.Progress.{Progress}
 use Rattle.px_session.specs.declared.event.Event.{Event}
 use Rattle.px_model.specs.Stream.{Stream}
 use Rattle.px_state.specs.declared.effect.Effect.{Effect}
 use Rattle.px_state.specs.State.{State}
 use Rattle.px_core.specs.Step.{stepped_by, effects_by}
-use Rattle.px_world.specs.declared.doors.Door.{Door}
 use Rattle.px_world.specs.declared.fault.WorldFault.{WorldFault}
 use Rattle.px_world.specs.declared.fault.WorldFault.TheVariants.{Live, NotLive, NoSink, Worn, TooMany, NoMemory}
 use Rattle.px_world.specs.declared.outcome.Outcome.{Outcome}
@@ -46,13 +46,13 @@ loses (TooMany asked there) = false
 loses NoMemory = true
 
 -- the world with these parts
-abbrev pub running_of : State Stream → List Door → List Playing → Running
+abbrev pub running_of : State Stream → List (ℕ × Progress) → List Playing → Running
 running_of core doors mixers = record { core = core; doors = doors; mixers = map mixer_of mixers }
 
 -- ---- an event of a connection
 
 -- the event was admitted: the core has done its steps, and the doors are open to the links after it
-pub record Does (before after : State Stream) (doors : List Door) (w : World) (e : Event) (effects : List Effect) : Type 0 where
+pub record Does (before after : State Stream) (doors : List (ℕ × Progress)) (w : World) (e : Event) (effects : List Effect) : Type 0 where
   pub admitted : refusal_of w e ≡ None
   pub core : after ≡ stepped_by Stream.spec before (all_steps w e)
   pub opened : Open doors (links_after w.links e)

@@ -1,36 +1,39 @@
 -- A world as it runs: of each link it holds no bytes, only the state of its decoder.
-use Rattle.std.specs.Prelude.{◌≡◌, Bool, nat_eq, List, [], ◌∷◌, ◌++◌, map, None, Result, Ok, Err}
+use Rattle.std.specs.Prelude.{◌≡◌, ℕ, List, [], ◌∷◌, ◌++◌, map, Option, None, Some, Result, Ok, Err}
+use Rattle.std.specs.Ordering.{nat_cmp}
+use Rattle.std.specs.BTreeMap.{is_at}
+use Rattle.std.specs.Map.{lookup}
 use Rattle.px_types.specs.declared.ids.ConnId.{ConnId}
 use Rattle.px_frame.specs.declared.fault.FrameError.{FrameError}
 use Rattle.px_frame.specs.declared.fault.FrameError.TheVariants.{Fault, Failed, NoMemory}
 use Rattle.px_frame.specs.declared.frame.Frame.{Frame}
-use Rattle.px_frame.specs.Progress.{HasFed}
+use Rattle.px_frame.specs.Progress.{Progress, HasFed}
 use Rattle.px_frame.specs.Meaning.{frames_in}
 use Rattle.px_model.specs.Stream.{Stream}
 use Rattle.px_state.specs.State.{State}
 use Rattle.px_core.specs.Step.{Step, frame, broken}
-use Rattle.px_world.specs.declared.doors.Door.{Door}
 use Rattle.px_world.specs.World.{World, Link, Mixer, link_of}
-
--- whether the door is that of connection `conn`
-abbrev pub is_door : ConnId → Door → Bool
-is_door conn door = nat_eq door.conn.0 conn.0
 
 pub record Running : Type 0 where
   pub core : State Stream
-  pub doors : List Door
+  -- the decoder of each link, by the connection's number
+  pub doors : List (ℕ × Progress)
   pub mixers : List Mixer
 
--- the door's decoder was fed all bytes that the link has received
-pub record Opens (door : Door) (link : Link) : Type 0 where
-  pub same : door.conn ≡ link.conn
-  pub fed : HasFed door.decoder link.received (frames_in link.received)
+-- the decoder of a connection, if it has one
+abbrev pub decoder_of : List (ℕ × Progress) → ConnId → Option Progress
+decoder_of doors conn = lookup (is_at (nat_cmp conn.0)) doors
 
-abbrev pub Open : List Door → List Link → Type 0
-Open [] [] = Unit {0}
-Open [] (link ∷ links) = ⊥
-Open (door ∷ doors) [] = ⊥
-Open (door ∷ doors) (link ∷ links) = Opens door link × Open doors links
+-- the decoder was fed all bytes that the link has received; where there is no link there is no decoder
+abbrev pub Opens : Option Progress → Option Link → Type 0
+Opens None None = Unit {0}
+Opens None (Some link) = ⊥
+Opens (Some decoder) None = ⊥
+Opens (Some decoder) (Some link) = HasFed decoder link.received (frames_in link.received)
+
+-- at each number
+abbrev pub Open : List (ℕ × Progress) → List Link → Type 0
+Open doors links = (conn : ConnId) → Opens (decoder_of doors conn) (link_of links conn)
 
 -- no two links have the same number
 abbrev pub AreDistinct : List Link → Type 0

@@ -1,34 +1,33 @@
 //! What the events of a connection do to the core and to the doors.
 
-ghost use Rattle.std.specs.Prelude.{◌≡◌, ℕ, List, [], ◌∷◌, ◌++◌, IfOk, IfSome, OnOk, None, Some, Ok};
-ghost use Rattle.std.specs.List.{position};
+ghost use Rattle.std.specs.Prelude.{◌≡◌, ℕ, List, [], ◌∷◌, ◌++◌, IfOk, IfSome, IsSome, OnOk, None, Ok};
 ghost use Rattle.std.specs.Option.{option_to_list};
 ghost use Rattle.px_frame.specs.Frame.{IsBody};
+ghost use Rattle.px_frame.specs.Progress.{Progress, GivesBodies};
 ghost use Rattle.px_frame.specs.Spelling.{spelling_of};
 ghost use Rattle.px_session.specs.declared.event.Event.TheVariants.{Connect, Bytes, Close, Cut};
 ghost use Rattle.px_state.specs.Effect.{IsSendable};
 ghost use Rattle.px_world.specs.World.{World, Mixer};
 ghost use Rattle.px_model.specs.Stream.{Stream};
 ghost use Rattle.px_core.specs.Step.{sweep, stepped_by, effects_by};
-ghost use Rattle.px_world.specs.Running.{is_door, Open, AreDistinct, steps_given};
+ghost use Rattle.px_world.specs.Running.{decoder_of, Open, IsAnswered, steps_given};
 ghost use Rattle.px_world.specs.Consistency.{AreConsistent};
-ghost use Rattle.px_world.specs.declared.doors.Door.{Door};
 ghost use Rattle.px_world.specs.Parts.{Does, Answered, IsRefused};
 
 use crate::WorldFault;
-use crate::doors::{Door, add, drop_at, feed, pass_over, place_of};
+use crate::doors::{Doors, add, drop_of, feed, is_there, pass_over};
 use crate::spares::Spares;
 use crate::spelling::spelled;
 use crate::stepping::{WorldCore, swept, take_given, take_one};
 use px_core::{Effect, Effects};
-use px_frame::{Body, Frame};
+use px_frame::{Body, Frame, FrameError, Frames};
 use px_types::{ConnId, Mem, Text};
 use std::alloc::Global;
 
 // A client connects whose number isn't live.
-fn admit(core: &mut WorldCore, doors: &mut Vec<Door>, alloc: Global, conn: ConnId) -> Mem<Effects>
-    requires { position (is_door conn) doors.old.items ≡ None }
-    ensures done { IfOk result (λ effects. (w : World) → Open doors.old.items w.links → Does core.old.state core.new.state doors.new.items w (Connect conn) effects) }
+fn admit(core: &mut WorldCore, doors: &mut Doors, alloc: Global, conn: ConnId) -> Mem<Effects>
+    requires { decoder_of doors.old.entries conn ≡ None }
+    ensures done { IfOk result (λ effects. (w : World) → Open doors.old.entries w.links → Does core.old.state core.new.state doors.new.entries w (Connect conn) effects) }
     ensures consistent { OnOk result ((mixers : List Mixer) → AreConsistent core.old.state mixers → AreConsistent core.new.state mixers) }
 {
     let first = core.admit(conn)?;
@@ -40,35 +39,33 @@ fn admit(core: &mut WorldCore, doors: &mut Vec<Door>, alloc: Global, conn: ConnI
 /// A client connects.
 pub(crate) fn connect(
     core: &mut WorldCore,
-    doors: &mut Vec<Door>,
+    doors: &mut Doors,
     alloc: Global,
     conn: ConnId,
 ) -> Result<Effects, WorldFault>
-    ensures done { (w : World) → Open doors.old.items w.links → Answered result (Does core.old.state core.new.state doors.new.items w (Connect conn)) (IsRefused w (Connect conn)) }
-    ensures stays { Answered result (λ _. Unit {0}) (λ _. (core.new.state ≡ core.old.state) × (doors.new.items ≡ doors.old.items)) }
+    ensures done { (w : World) → Open doors.old.entries w.links → Answered result (Does core.old.state core.new.state doors.new.entries w (Connect conn)) (IsRefused w (Connect conn)) }
+    ensures stays { Answered result (λ _. Unit {0}) (λ _. (core.new.state ≡ core.old.state) × (doors.new.entries ≡ doors.old.entries)) }
     ensures consistent { OnOk result ((mixers : List Mixer) → AreConsistent core.old.state mixers → AreConsistent core.new.state mixers) }
 {
-    match place_of(doors.as_slice(), conn) {
-        Some(_) => Err(WorldFault::Live),
-        None => Ok(admit(core, doors, alloc, conn)?),
+    if is_there(doors, conn) {
+        return Err(WorldFault::Live);
     }
+    Ok(admit(core, doors, alloc, conn)?)
 }
 
-// Bytes arrive for the door at `place`.
+// A client's decoder has given frames, or a fault.
 fn hear(
     core: &mut WorldCore,
-    doors: &mut [Door],
     alloc: Global,
     conn: ConnId,
-    place: usize,
-    bytes: &[u8],
-    spares: &mut Spares,
+    given: Result<Frames, FrameError>,
 ) -> Mem<Effects>
-    requires { position (is_door conn) doors.old ≡ Some place }
-    ensures done { IfOk result (λ effects. (w : World) → Open doors.old w.links → AreDistinct w.links → Does core.old.state core.new.state doors.new w (Bytes conn bytes.now) effects) }
+    requires { GivesBodies given }
+    ensures answered { OnOk result (IsAnswered given) }
+    ensures core { OnOk result (core.new.state ≡ stepped_by Stream.spec core.old.state (steps_given conn given ++ sweep ∷ [])) }
+    ensures effects { IfOk result (λ effects. effects ≡ effects_by Stream.spec core.old.state (steps_given conn given ++ sweep ∷ [])) }
     ensures consistent { OnOk result ((mixers : List Mixer) → AreConsistent core.old.state mixers → AreConsistent core.new.state mixers) }
 {
-    let given = feed(doors, place, bytes, spares);
     let first = take_given(core, alloc, conn, given)?;
     let effects = swept(core, first)?;
     Ok(effects)
@@ -77,33 +74,33 @@ fn hear(
 // Bytes arrive from client `conn`, if it is live.
 fn receive(
     core: &mut WorldCore,
-    doors: &mut [Door],
+    doors: &mut Doors,
     alloc: Global,
     conn: ConnId,
     bytes: &[u8],
     spares: &mut Spares,
 ) -> Result<Effects, WorldFault>
-    ensures done { (w : World) → Open doors.old w.links → AreDistinct w.links → Answered result (Does core.old.state core.new.state doors.new w (Bytes conn bytes.now)) (IsRefused w (Bytes conn bytes.now)) }
-    ensures stays { Answered result (λ _. Unit {0}) (λ _. (core.new.state ≡ core.old.state) × (doors.new ≡ doors.old)) }
+    ensures done { (w : World) → Open doors.old.entries w.links → Answered result (Does core.old.state core.new.state doors.new.entries w (Bytes conn bytes.now)) (IsRefused w (Bytes conn bytes.now)) }
+    ensures stays { Answered result (λ _. Unit {0}) (λ _. (core.new.state ≡ core.old.state) × (doors.new.entries ≡ doors.old.entries)) }
     ensures consistent { OnOk result ((mixers : List Mixer) → AreConsistent core.old.state mixers → AreConsistent core.new.state mixers) }
 {
-    match place_of(doors, conn) {
+    match feed(doors, conn, bytes, spares) {
         None => Err(WorldFault::NotLive),
-        Some(place) => Ok(hear(core, doors, alloc, conn, place, bytes, spares)?),
+        Some(given) => Ok(hear(core, alloc, conn, given)?),
     }
 }
 
 /// Bytes arrive from a client. Their text is then held as a spare, to be used again.
 pub(crate) fn bytes(
     core: &mut WorldCore,
-    doors: &mut [Door],
+    doors: &mut Doors,
     alloc: Global,
     conn: ConnId,
     text: Text,
     spares: &mut Spares,
 ) -> Result<Effects, WorldFault>
-    ensures done { (w : World) → Open doors.old w.links → AreDistinct w.links → Answered result (Does core.old.state core.new.state doors.new w (Bytes conn text)) (IsRefused w (Bytes conn text)) }
-    ensures stays { Answered result (λ _. Unit {0}) (λ _. (core.new.state ≡ core.old.state) × (doors.new ≡ doors.old)) }
+    ensures done { (w : World) → Open doors.old.entries w.links → Answered result (Does core.old.state core.new.state doors.new.entries w (Bytes conn text)) (IsRefused w (Bytes conn text)) }
+    ensures stays { Answered result (λ _. Unit {0}) (λ _. (core.new.state ≡ core.old.state) × (doors.new.entries ≡ doors.old.entries)) }
     ensures consistent { OnOk result ((mixers : List Mixer) → AreConsistent core.old.state mixers → AreConsistent core.new.state mixers) }
 {
     let done = receive(core, doors, alloc, conn, text.as_slice(), spares);
@@ -123,64 +120,41 @@ fn hear_passed(core: &mut WorldCore, conn: ConnId, at: u64, body: Body) -> Mem<E
     Ok(effects)
 }
 
-// A frame arrives for the door at `place`: its decoder passes over it where it stands between two frames, and is fed its spelling elsewhere.
-fn hear_frame(
-    core: &mut WorldCore,
-    doors: &mut [Door],
-    alloc: Global,
-    conn: ConnId,
-    place: usize,
-    frame: Frame,
-    spares: &mut Spares,
-) -> Mem<Effects>
-    requires there { position (is_door conn) doors.old ≡ Some place }
-    requires body { IsBody frame.body }
-    ensures done { IfOk result (λ effects. (w : World) → Open doors.old w.links → AreDistinct w.links → Does core.old.state core.new.state doors.new w (Bytes conn (spelling_of frame.body)) effects) }
-    ensures consistent { OnOk result ((mixers : List Mixer) → AreConsistent core.old.state mixers → AreConsistent core.new.state mixers) }
-{
-    match pass_over(doors, place, &frame.body) {
-        Some(at) => hear_passed(core, conn, at, frame.body),
-        None => {
-            let bytes = spelled(alloc, &frame.body)?;
-            hear(core, doors, alloc, conn, place, bytes.as_slice(), spares)
-        }
-    }
-}
-
-/// A frame arrives from a client, as its spelling would.
+/// A frame arrives from a client, as its spelling would: its decoder passes over it where it stands between two frames, and is fed its spelling
+/// elsewhere.
 pub(crate) fn frame(
     core: &mut WorldCore,
-    doors: &mut [Door],
+    doors: &mut Doors,
     alloc: Global,
     conn: ConnId,
     frame: Frame,
     spares: &mut Spares,
 ) -> Result<Effects, WorldFault>
     requires { IsBody frame.body }
-    ensures done { (w : World) → Open doors.old w.links → AreDistinct w.links → Answered result (Does core.old.state core.new.state doors.new w (Bytes conn (spelling_of frame.body))) (IsRefused w (Bytes conn (spelling_of frame.body))) }
-    ensures stays { Answered result (λ _. Unit {0}) (λ _. (core.new.state ≡ core.old.state) × (doors.new ≡ doors.old)) }
+    ensures done { (w : World) → Open doors.old.entries w.links → Answered result (Does core.old.state core.new.state doors.new.entries w (Bytes conn (spelling_of frame.body))) (IsRefused w (Bytes conn (spelling_of frame.body))) }
+    ensures stays { Answered result (λ _. Unit {0}) (λ _. (core.new.state ≡ core.old.state) × (doors.new.entries ≡ doors.old.entries)) }
     ensures consistent { OnOk result ((mixers : List Mixer) → AreConsistent core.old.state mixers → AreConsistent core.new.state mixers) }
 {
-    match place_of(doors, conn) {
-        None => Err(WorldFault::NotLive),
-        Some(place) => Ok(hear_frame(core, doors, alloc, conn, place, frame, spares)?),
+    match pass_over(doors, conn, &frame.body) {
+        Some(at) => Ok(hear_passed(core, conn, at, frame.body)?),
+        None => {
+            if !is_there(doors, conn) {
+                return Err(WorldFault::NotLive);
+            }
+            let bytes = spelled(alloc, &frame.body)?;
+            receive(core, doors, alloc, conn, bytes.as_slice(), spares)
+        }
     }
 }
 
-// The client of the door at `place` has closed its connection.
-fn leave(
-    core: &mut WorldCore,
-    doors: &mut Vec<Door>,
-    alloc: Global,
-    conn: ConnId,
-    place: usize,
-) -> Mem<Effects>
-    requires { position (is_door conn) doors.old.items ≡ Some place }
-    ensures done { IfOk result (λ effects. (w : World) → Open doors.old.items w.links → AreDistinct w.links → Does core.old.state core.new.state doors.new.items w (Close conn) effects) }
+// The client of connection `conn`, which is live, has closed it.
+fn leave(core: &mut WorldCore, doors: &mut Doors, alloc: Global, conn: ConnId) -> Mem<Effects>
+    requires { IsSome (decoder_of doors.old.entries conn) }
+    ensures done { IfOk result (λ effects. (w : World) → Open doors.old.entries w.links → Does core.old.state core.new.state doors.new.entries w (Close conn) effects) }
     ensures consistent { OnOk result ((mixers : List Mixer) → AreConsistent core.old.state mixers → AreConsistent core.new.state mixers) }
 {
     core.close(conn);
-    drop_at(doors, place);
+    drop_of(doors, conn);
     let none = Effects::new(alloc);
     let effects = swept(core, none)?;
     Ok(effects)
@@ -189,18 +163,18 @@ fn leave(
 /// A client has closed its connection.
 pub(crate) fn close(
     core: &mut WorldCore,
-    doors: &mut Vec<Door>,
+    doors: &mut Doors,
     alloc: Global,
     conn: ConnId,
 ) -> Result<Effects, WorldFault>
-    ensures done { (w : World) → Open doors.old.items w.links → AreDistinct w.links → Answered result (Does core.old.state core.new.state doors.new.items w (Close conn)) (IsRefused w (Close conn)) }
-    ensures stays { Answered result (λ _. Unit {0}) (λ _. (core.new.state ≡ core.old.state) × (doors.new.items ≡ doors.old.items)) }
+    ensures done { (w : World) → Open doors.old.entries w.links → Answered result (Does core.old.state core.new.state doors.new.entries w (Close conn)) (IsRefused w (Close conn)) }
+    ensures stays { Answered result (λ _. Unit {0}) (λ _. (core.new.state ≡ core.old.state) × (doors.new.entries ≡ doors.old.entries)) }
     ensures consistent { OnOk result ((mixers : List Mixer) → AreConsistent core.old.state mixers → AreConsistent core.new.state mixers) }
 {
-    match place_of(doors.as_slice(), conn) {
-        None => Err(WorldFault::NotLive),
-        Some(place) => Ok(leave(core, doors, alloc, conn, place)?),
+    if !is_there(doors, conn) {
+        return Err(WorldFault::NotLive);
     }
+    Ok(leave(core, doors, alloc, conn)?)
 }
 
 // This effect, or none.
@@ -216,7 +190,7 @@ fn of_option(alloc: Global, effect: Option<Effect>) -> Mem<Effects>
 
 // The server ends connection `conn`, if it is live.
 fn cut_off(core: &mut WorldCore, alloc: Global, conn: ConnId) -> Mem<Effects>
-    ensures done { IfOk result (λ effects. (doors : List Door) (place : ℕ) (w : World) → position (is_door conn) doors ≡ Some place → Open doors w.links → Does core.old.state core.new.state doors w (Cut conn) effects) }
+    ensures done { IfOk result (λ effects. (doors : List (ℕ × Progress)) (w : World) → IsSome (decoder_of doors conn) → Open doors w.links → Does core.old.state core.new.state doors w (Cut conn) effects) }
     ensures consistent { OnOk result ((mixers : List Mixer) → AreConsistent core.old.state mixers → AreConsistent core.new.state mixers) }
 {
     let effect = core.cut(conn);
@@ -228,16 +202,16 @@ fn cut_off(core: &mut WorldCore, alloc: Global, conn: ConnId) -> Mem<Effects>
 /// The server ends a connection, as memory ran out.
 pub(crate) fn cut(
     core: &mut WorldCore,
-    doors: &[Door],
+    doors: &Doors,
     alloc: Global,
     conn: ConnId,
 ) -> Result<Effects, WorldFault>
-    ensures done { (w : World) → Open doors.now w.links → Answered result (Does core.old.state core.new.state doors.now w (Cut conn)) (IsRefused w (Cut conn)) }
-    ensures stays { Answered result (λ _. Unit {0}) (λ _. (core.new.state ≡ core.old.state) × (doors.now ≡ doors.now)) }
+    ensures done { (w : World) → Open doors.now.entries w.links → Answered result (Does core.old.state core.new.state doors.now.entries w (Cut conn)) (IsRefused w (Cut conn)) }
+    ensures stays { Answered result (λ _. Unit {0}) (λ _. (core.new.state ≡ core.old.state) × (doors.now.entries ≡ doors.now.entries)) }
     ensures consistent { OnOk result ((mixers : List Mixer) → AreConsistent core.old.state mixers → AreConsistent core.new.state mixers) }
 {
-    match place_of(doors, conn) {
-        None => Err(WorldFault::NotLive),
-        Some(_) => Ok(cut_off(core, alloc, conn)?),
+    if !is_there(doors, conn) {
+        return Err(WorldFault::NotLive);
     }
+    Ok(cut_off(core, alloc, conn)?)
 }

@@ -1,102 +1,86 @@
-//! The doors of a world: each connection's number with the decoder of its client's bytes.
+//! The doors of a world: the decoder of each client's bytes, by its connection's number.
 
-ghost use Rattle.std.specs.Prelude.{◌≡◌, ◌≢◌, ℕ, ◌<◌, List, [], ◌∷◌, ◌++◌, IfOk, OnOk, OnErr, None, Some, Ok, length};
-ghost use Rattle.std.specs.List.{position, remove, slice_get};
+ghost use Rattle.std.specs.Prelude.{◌≡◌, ℕ, List, [], ◌∷◌, IfOk, IfSome, IfNone, IsSome, OnErr, None, Some, Ok};
 ghost use Rattle.std.specs.Option.{is_some};
-ghost use Rattle.px_types.specs.declared.ids.ConnId.{ConnId};
 ghost use Rattle.px_frame.specs.Frame.{IsBody};
-ghost use Rattle.px_frame.specs.Progress.{Within, GivesBodies};
+ghost use Rattle.px_frame.specs.Progress.{GivesBodies};
 ghost use Rattle.px_frame.specs.Spelling.{spelling_of};
 ghost use Rattle.px_session.specs.declared.event.Event.TheVariants.{Connect, Bytes, Close};
 ghost use Rattle.px_world.specs.World.{Link, link_of, received_of};
 ghost use Rattle.px_world.specs.Event.{bytes_steps, links_after};
-ghost use Rattle.px_world.specs.Running.{is_door, Open, AreDistinct, IsAnswered, steps_given};
+ghost use Rattle.px_world.specs.Running.{decoder_of, Open, IsAnswered, steps_given};
 
 use px_block::BlockSource;
 use px_frame::{Body, Decoder, FrameError, Frames};
 use px_types::{ConnId, Mem};
 use std::alloc::Global;
+use std::collections::BTreeMap;
 
-/// A connection's number with the decoder of its client's bytes.
-#[derive(Drop)]
-pub(crate) struct Door {
-    pub conn: ConnId,
-    pub decoder: Decoder,
-}
-
-/// The place of the door of connection `conn`. Takes no memory.
-pub(crate) fn place_of(doors: &[Door], conn: ConnId) -> Option<usize>
-    ensures { result ≡ position (is_door conn) doors.now }
-{
-    doors.iter().position(|door| door.conn.0 == conn.0)
-}
+/// The decoder of each connection that a client has opened and not closed, by its number: each look-up takes the logarithm of their count.
+pub(crate) type Doors = BTreeMap<u32, Decoder>;
 
 /// Whether there is a door of connection `conn`. Takes no memory.
-pub(crate) fn is_there(doors: &[Door], conn: ConnId) -> bool
-    ensures { (links : List Link) → Open doors.now links → result ≡ is_some (link_of links conn) }
+pub(crate) fn is_there(doors: &Doors, conn: ConnId) -> bool
+    ensures value { result ≡ is_some (decoder_of doors.now.entries conn) }
+    ensures named { (links : List Link) → Open doors.now.entries links → result ≡ is_some (link_of links conn) }
 {
-    place_of(doors, conn).is_some()
+    doors.contains_key(&conn.0)
 }
 
-/// Decodes the next bytes of the client of the door at `place`, in whatever pieces they come: the frames that are complete, or the fault that ends
-/// them (`Decoder::feed`). For whatever links the doors are open to, the result makes the core's steps, and the doors are open to the links with
-/// these bytes, unless memory ran out.
+/// Decodes the next bytes of the client of connection `conn`, in whatever pieces they come: the frames that are complete, or the fault that ends
+/// them (`Decoder::feed`); `None` where there is no such door. For whatever links the doors are open to, the result makes the core's steps, and
+/// the doors are open to the links with these bytes, unless memory ran out.
 pub(crate) fn feed<B: BlockSource>(
-    doors: &mut [Door],
-    place: usize,
+    doors: &mut Doors,
+    conn: ConnId,
     bytes: &[u8],
     blocks: &mut B,
-) -> Result<Frames, FrameError>
-    requires { place < length doors.old }
-    ensures steps { (conn : ConnId) (links : List Link)
-        → position (is_door conn) doors.old ≡ Some place → Open doors.old links
-        → IsAnswered result
-        → bytes_steps conn (received_of (link_of links conn)) bytes.now ≡ steps_given conn result }
-    ensures opened { (conn : ConnId) (links : List Link)
-        → position (is_door conn) doors.old ≡ Some place → Open doors.old links → AreDistinct links
-        → IsAnswered result
-        → Open doors.new (links_after links (Bytes conn bytes.now)) }
-    ensures bodies { GivesBodies result }
-    ensures others { (i : ℕ) → i ≢ place → slice_get doors.new i ≡ slice_get doors.old i }
+) -> Option<Result<Frames, FrameError>>
+    ensures there { IfSome result (λ _. IsSome (decoder_of doors.old.entries conn)) }
+    ensures steps { IfSome result (λ given. (links : List Link) → Open doors.old.entries links → IsAnswered given
+        → bytes_steps conn (received_of (link_of links conn)) bytes.now ≡ steps_given conn given) }
+    ensures opened { IfSome result (λ given. (links : List Link) → Open doors.old.entries links → IsAnswered given
+        → Open doors.new.entries (links_after links (Bytes conn bytes.now))) }
+    ensures bodies { IfSome result GivesBodies }
+    ensures none { IfNone result ((decoder_of doors.old.entries conn ≡ None) × (doors.new.entries ≡ doors.old.entries)) }
 {
-    doors[place].decoder.feed(bytes, blocks)
+    match doors.get_mut(&conn.0) {
+        Some(decoder) => Some(decoder.feed(bytes, blocks)),
+        None => None,
+    }
 }
 
-/// Passes over a frame of the client of the door at `place`, where its decoder stands between two frames, and gives the offset of its payload
-/// (`Decoder::pass_over`). Takes no memory.
-pub(crate) fn pass_over(doors: &mut [Door], place: usize, body: &Body) -> Option<u64>
-    requires place { place < length doors.old }
-    requires body { IsBody body.now }
-    ensures steps { (at : ℕ) (conn : ConnId) (links : List Link) → result ≡ Some at
-        → position (is_door conn) doors.old ≡ Some place → Open doors.old links
+/// Passes over a frame of the client of connection `conn`, where it has a door whose decoder stands between two frames, and gives the offset of its
+/// payload (`Decoder::pass_over`). Takes no memory.
+pub(crate) fn pass_over(doors: &mut Doors, conn: ConnId, body: &Body) -> Option<u64>
+    requires { IsBody body.now }
+    ensures there { IfSome result (λ _. IsSome (decoder_of doors.old.entries conn)) }
+    ensures steps { (at : ℕ) (links : List Link) → result ≡ Some at → Open doors.old.entries links
         → bytes_steps conn (received_of (link_of links conn)) (spelling_of body.now) ≡ steps_given conn (Ok (record { at = at; body = body.now } ∷ [])) }
-    ensures opened { (at : ℕ) (conn : ConnId) (links : List Link) → result ≡ Some at
-        → position (is_door conn) doors.old ≡ Some place → Open doors.old links → AreDistinct links
-        → Open doors.new (links_after links (Bytes conn (spelling_of body.now))) }
-    ensures none { result ≡ None → doors.new ≡ doors.old }
+    ensures opened { (at : ℕ) (links : List Link) → result ≡ Some at → Open doors.old.entries links
+        → Open doors.new.entries (links_after links (Bytes conn (spelling_of body.now))) }
+    ensures none { result ≡ None → doors.new.entries ≡ doors.old.entries }
 {
-    doors[place].decoder.pass_over(body)
+    match doors.get_mut(&conn.0) {
+        Some(decoder) => decoder.pass_over(body),
+        None => None,
+    }
 }
 
-/// Appends a door for a client that connects. Where memory runs out nothing changes.
-pub(crate) fn add(doors: &mut Vec<Door>, alloc: Global, conn: ConnId) -> Mem<()>
-    ensures after { OnOk result (doors.new.items ≡ doors.old.items ++ record { conn = conn; decoder = Within 0 [] } ∷ []) }
-    ensures opened { IfOk result (λ _. (links : List Link) → Open doors.old.items links
-        → Open doors.new.items (links_after links (Connect conn))) }
-    ensures err { OnErr result (doors.new.items ≡ doors.old.items) }
+/// Adds a door for a client that connects. Where memory runs out nothing changes.
+pub(crate) fn add(doors: &mut Doors, alloc: Global, conn: ConnId) -> Mem<()>
+    requires { decoder_of doors.old.entries conn ≡ None }
+    ensures opened { IfOk result (λ _. (links : List Link) → Open doors.old.entries links
+        → Open doors.new.entries (links_after links (Connect conn))) }
+    ensures err { OnErr result (doors.new.entries ≡ doors.old.entries) }
 {
-    let decoder = Decoder::new(alloc);
-    doors.push(Door { conn, decoder })?;
+    doors.insert(conn.0, Decoder::new(alloc))?;
     Ok(())
 }
 
-/// Removes the door at `place`. Takes no memory.
-pub(crate) fn drop_at(doors: &mut Vec<Door>, place: usize)
-    requires { place < length doors.old.items }
-    ensures after { doors.new.items ≡ remove doors.old.items place }
-    ensures opened { (conn : ConnId) (links : List Link)
-        → position (is_door conn) doors.old.items ≡ Some place → Open doors.old.items links → AreDistinct links
-        → Open doors.new.items (links_after links (Close conn)) }
+/// Removes the door of connection `conn`, if there is one. Takes no memory.
+pub(crate) fn drop_of(doors: &mut Doors, conn: ConnId)
+    ensures { (links : List Link) → Open doors.old.entries links → Open doors.new.entries (links_after links (Close conn)) }
 {
-    doors.remove(place);
+    doors.remove(&conn.0);
 }

@@ -12,7 +12,7 @@ ghost use Rattle.px_world.specs.Consistency.{AreConsistent};
 ghost use Rattle.px_world.specs.Parts.{IsSilent, running_of, Answered, IsRefused, Runs};
 
 use crate::connections::{bytes, close, connect, cut, frame};
-use crate::doors::Door;
+use crate::doors::Doors;
 use crate::playing::Playing;
 use crate::sinks::{collect, silence, stop, turn};
 use crate::spares::Spares;
@@ -42,7 +42,7 @@ fn silent(alloc: Global, done: Result<Effects, WorldFault>) -> Result<Outcome, W
 /// A frame arrives from a client, as its spelling would.
 pub(crate) fn run_frame(
     core: &mut WorldCore,
-    doors: &mut Vec<Door>,
+    doors: &mut Doors,
     mixers: &[Playing],
     spares: &mut Spares,
     alloc: Global,
@@ -51,9 +51,9 @@ pub(crate) fn run_frame(
 ) -> Result<Outcome, WorldFault>
     requires body { IsBody arrived.body }
     requires consistent { AreConsistent core.old.state (map mixer_of mixers.now) }
-    ensures done { (w : World) → StandsFor (running_of core.old.state doors.old.items mixers.now) w
-        → Answered result (Runs (running_of core.new.state doors.new.items mixers.now) w (Bytes conn (spelling_of arrived.body))) (IsRefused w (Bytes conn (spelling_of arrived.body))) }
-    ensures rests { Answered result (λ _. Unit {0}) (λ _. (running_of core.new.state doors.new.items mixers.now) ≡ (running_of core.old.state doors.old.items mixers.now)) }
+    ensures done { (w : World) → StandsFor (running_of core.old.state doors.old.entries mixers.now) w
+        → Answered result (Runs (running_of core.new.state doors.new.entries mixers.now) w (Bytes conn (spelling_of arrived.body))) (IsRefused w (Bytes conn (spelling_of arrived.body))) }
+    ensures rests { Answered result (λ _. Unit {0}) (λ _. (running_of core.new.state doors.new.entries mixers.now) ≡ (running_of core.old.state doors.old.entries mixers.now)) }
     ensures consistent { Answered result (λ _. AreConsistent core.new.state (map mixer_of mixers.now)) (λ _. AreConsistent core.new.state (map mixer_of mixers.now)) }
 {
     silent(alloc, frame(core, doors, alloc, conn, arrived, spares))
@@ -62,7 +62,7 @@ pub(crate) fn run_frame(
 /// Does one event.
 pub(crate) fn run(
     core: &mut WorldCore,
-    doors: &mut Vec<Door>,
+    doors: &mut Doors,
     mixers: &mut Vec<Playing>,
     spares: &mut Spares,
     alloc: Global,
@@ -70,9 +70,9 @@ pub(crate) fn run(
 ) -> Result<Outcome, WorldFault>
     requires consistent { AreConsistent core.old.state (map mixer_of mixers.old.items) }
     requires playing { AllByRecursion IsPlaying mixers.old.items }
-    ensures done { (w : World) → StandsFor (running_of core.old.state doors.old.items mixers.old.items) w
-        → Answered result (Runs (running_of core.new.state doors.new.items mixers.new.items) w e) (IsRefused w e) }
-    ensures rests { Answered result (λ _. Unit {0}) (λ _. (running_of core.new.state doors.new.items mixers.new.items) ≡ (running_of core.old.state doors.old.items mixers.old.items)) }
+    ensures done { (w : World) → StandsFor (running_of core.old.state doors.old.entries mixers.old.items) w
+        → Answered result (Runs (running_of core.new.state doors.new.entries mixers.new.items) w e) (IsRefused w e) }
+    ensures rests { Answered result (λ _. Unit {0}) (λ _. (running_of core.new.state doors.new.entries mixers.new.items) ≡ (running_of core.old.state doors.old.entries mixers.old.items)) }
     ensures consistent { Answered result (λ _. AreConsistent core.new.state (map mixer_of mixers.new.items)) (λ _. AreConsistent core.new.state (map mixer_of mixers.new.items)) }
     ensures playing { Answered result (λ _. AllByRecursion IsPlaying mixers.new.items) (λ _. AllByRecursion IsPlaying mixers.new.items) }
 {

@@ -20,7 +20,7 @@ ghost use Rattle.px_world.specs.Parts.{loses};
 ghost use Rattle.px_world.specs.declared.fault.WorldFault.{WorldFault};
 ghost use Rattle.px_world.specs.declared.fault.WorldFault.TheVariants.{NoMemory};
 
-use crate::doors::{Door, is_there};
+use crate::doors::{Doors, is_there};
 use crate::playing::Playing;
 use crate::run::{run, run_frame};
 use crate::sinks::stop_at;
@@ -40,7 +40,7 @@ use std::marker::Model;
 #[derive(Drop)]
 pub struct World {
     core: WorldCore,
-    doors: Vec<Door>,
+    doors: Doors,
     mixers: Vec<Playing>,
     // blocks that streams are done with, for the next bytes of clients
     spares: Spares,
@@ -58,7 +58,7 @@ impl Model for World {
 
     ghost Value = { Running };
 
-    ghost view = { λ w. running_of w.core.state w.doors.items w.mixers.items };
+    ghost view = { λ w. running_of w.core.state w.doors.entries w.mixers.items };
 
     ghost invariant = { λ w. IsFalse w.lost → AreConsistent w.core.state (map mixer_of w.mixers.items) × AllByRecursion IsPlaying w.mixers.items };
 }
@@ -97,7 +97,7 @@ impl World {
         let spares = Spares::new(alloc)?;
         let mixers = new_mixers(alloc, header.sinks.as_slice())?;
         let core = Core::new(alloc, header, None)?;
-        let doors = Vec::new(alloc);
+        let doors = Doors::new(alloc);
         Ok(World {
             core,
             doors,

@@ -6,7 +6,7 @@ use Rattle.px_world.proofs.connections.admit.Goals as goal
 
 pub returns-clause-done : goal.returns-clause-done
 returns-clause-done c = λ w opened. record {
-  admitted = (refused-absent c.args.doors.now.items w.links opened c.args.conn c.requires).0;
+  admitted = (refused-absent c.args.doors.now.entries w.links c.args.conn opened c.requires).0;
   core = one-swept Stream.spec c.args.core.now.state _ (connect c.args.conn) _ c.in_ok-first.ensures.after c.in_ok-effects.ensures.core;
   opened = c.in_ok-add.ensures.opened w.links opened;
   caused = one-swept-caused Stream.spec c.args.core.now.state _ (connect c.args.conn) _ _ c.in_ok-first.ensures.after c.in_ok-first.ensures.effects c.in_ok-effects.ensures.effects;

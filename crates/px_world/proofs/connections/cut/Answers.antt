@@ -1,9 +1,9 @@
-use Rattle.std.proofs.Common.{sym}
-use Rattle.px_world.proofs.Openings.{refused-absent}
+use Rattle.std.proofs.Common.{rules}
+use Rattle.std.specs.Prelude.{IsSome}
+use Rattle.px_world.specs.Running.{decoder_of}
 use Rattle.px_world.proofs.connections.cut.Goals as goal
 
-pub returns-in-None-clause-done : goal.returns-in-None-clause-done
-returns-in-None-clause-done c = λ w opened. (refused-absent c.args.doors.now w.links opened c.args.conn (sym c.in-None.ensures)).1
-
-pub returns-in_ok-cut_off-in-Some-clause-done : goal.returns-in_ok-cut_off-in-Some-clause-done
-returns-in_ok-cut_off-in-Some-clause-done c = λ w opened. c.in_ok-cut_off-in-Some.ensures.done c.args.doors.now _ w (sym c.in-Some.ensures) opened
+pub returns-clause-done : goal.returns-clause-done
+returns-clause-done c = λ w opened.
+    let there : IsSome (decoder_of c.args.doors.now.entries c.args.conn) = search rules in
+    c.in_ok-cut_off.ensures.done c.args.doors.now.entries w there opened

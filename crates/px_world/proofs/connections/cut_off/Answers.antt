@@ -1,12 +1,13 @@
 use Rattle.std.proofs.Common.{◌∙◌}
 use Rattle.px_model.specs.Stream.{Stream}
 use Rattle.px_core.specs.Step.{cut}
-use Rattle.px_world.proofs.Hearing.{refused-found, one-swept, one-swept-caused, consistent-one}
+use Rattle.px_world.proofs.Openings.{refused-there}
+use Rattle.px_world.proofs.Hearing.{one-swept, one-swept-caused, consistent-one}
 use Rattle.px_world.proofs.connections.cut_off.Goals as goal
 
 pub returns-clause-done : goal.returns-clause-done
-returns-clause-done c = λ doors place w found opened. record {
-  admitted = (refused-found doors w.links c.args.conn place found opened).1;
+returns-clause-done c = λ doors w there opened. record {
+  admitted = (refused-there doors w.links c.args.conn opened there).1;
   core = one-swept Stream.spec c.args.core.now.state _ (cut c.args.conn) _ c.cut-effect.ensures.after c.in_ok-effects.ensures.core;
   opened = opened;
   caused = one-swept-caused Stream.spec c.args.core.now.state _ (cut c.args.conn) _ _ c.cut-effect.ensures.after

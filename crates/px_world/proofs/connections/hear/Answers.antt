@@ -1,29 +1,19 @@
-use Rattle.std.proofs.Common.{◌≡◌, ◌∷◌, [], ap, sym, ◌∙◌}
 use Rattle.px_model.specs.Stream.{Stream}
-use Rattle.px_core.specs.Step.{sweep, stepped_by, effects_by}
-use Rattle.px_world.specs.World.{link_of, received_of}
-use Rattle.px_world.specs.Event.{bytes_steps}
+use Rattle.px_core.specs.Step.{sweep}
 use Rattle.px_world.specs.Running.{steps_given}
+use Rattle.std.proofs.Common.{◌∷◌, []}
 use Rattle.px_world.proofs.Going.{steps-behind, effects-behind}
-use Rattle.px_world.proofs.Hearing.{refused-found, position-within, consistent-given}
+use Rattle.px_world.proofs.Hearing.{consistent-given}
 use Rattle.px_world.proofs.connections.hear.Goals as goal
 
-pub feed-given-requires : goal.feed-given-requires
-feed-given-requires c = position-within c.args.doors.now c.args.conn c.args.place c.requires
+pub returns-clause-core : goal.returns-clause-core
+returns-clause-core c =
+    steps-behind Stream.spec c.args.core.now.state _ _ (steps_given c.args.conn c.args.given) (sweep ∷ []) c.in_ok-first.ensures.core c.in_ok-effects.ensures.core
 
-pub returns-clause-done : goal.returns-clause-done
-returns-clause-done c = λ w opened distinct.
-    let steps : bytes_steps c.args.conn (received_of (link_of w.links c.args.conn)) c.args.bytes.now ≡ steps_given c.args.conn c.feed-given.result =
-    c.feed-given.ensures.steps c.args.conn w.links c.requires opened c.in_ok-first.ensures.answered in
-    record {
-      admitted = (refused-found c.args.doors.now w.links c.args.conn c.args.place c.requires opened).1;
-      core = steps-behind Stream.spec c.args.core.now.state _ _ (bytes_steps c.args.conn (received_of (link_of w.links c.args.conn)) c.args.bytes.now) (sweep ∷ [])
-          (c.in_ok-first.ensures.core ∙ ap (stepped_by Stream.spec c.args.core.now.state) (sym steps)) c.in_ok-effects.ensures.core;
-      opened = c.feed-given.ensures.opened c.args.conn w.links c.requires opened distinct c.in_ok-first.ensures.answered;
-      caused = effects-behind Stream.spec c.args.core.now.state _ (bytes_steps c.args.conn (received_of (link_of w.links c.args.conn)) c.args.bytes.now) (sweep ∷ []) _ _
-          (c.in_ok-first.ensures.core ∙ ap (stepped_by Stream.spec c.args.core.now.state) (sym steps))
-          (c.in_ok-first.ensures.effects ∙ ap (effects_by Stream.spec c.args.core.now.state) (sym steps)) c.in_ok-effects.ensures.effects;
-    }
+pub returns-clause-effects : goal.returns-clause-effects
+returns-clause-effects c =
+    effects-behind Stream.spec c.args.core.now.state _ (steps_given c.args.conn c.args.given) (sweep ∷ []) _ _
+    c.in_ok-first.ensures.core c.in_ok-first.ensures.effects c.in_ok-effects.ensures.effects
 
 pub returns-clause-consistent : goal.returns-clause-consistent
-returns-clause-consistent c = λ mixers h. consistent-given c.args.core.now.state _ _ mixers h c.args.conn c.feed-given.result c.feed-given.ensures.bodies c.in_ok-first.ensures.core c.in_ok-effects.ensures.core
+returns-clause-consistent c = λ mixers h. consistent-given c.args.core.now.state _ _ mixers h c.args.conn c.args.given c.requires c.in_ok-first.ensures.core c.in_ok-effects.ensures.core

@@ -1,17 +1,15 @@
 use Rattle.std.proofs.Common.{sym, ◌∙◌}
 use Rattle.px_model.specs.Stream.{Stream}
 use Rattle.px_core.specs.Step.{close}
-use Rattle.px_world.proofs.Hearing.{refused-found, position-within, one-swept, one-swept-caused, close-silent, consistent-one}
+use Rattle.px_world.proofs.Openings.{refused-there}
+use Rattle.px_world.proofs.Hearing.{one-swept, one-swept-caused, close-silent, consistent-one}
 use Rattle.px_world.proofs.connections.leave.Goals as goal
 
-pub drop_at-requires : goal.drop_at-requires
-drop_at-requires c = position-within c.args.doors.now.items c.args.conn c.args.place c.requires
-
 pub returns-clause-done : goal.returns-clause-done
-returns-clause-done c = λ w opened distinct. record {
-  admitted = (refused-found c.args.doors.now.items w.links c.args.conn c.args.place c.requires opened).1;
+returns-clause-done c = λ w opened. record {
+  admitted = (refused-there c.args.doors.now.entries w.links c.args.conn opened c.requires).1;
   core = one-swept Stream.spec c.args.core.now.state _ (close c.args.conn) _ c.close.ensures c.in_ok-effects.ensures.core;
-  opened = c.drop_at.ensures.opened c.args.conn w.links c.requires opened distinct;
+  opened = c.drop_of.ensures w.links opened;
   caused = one-swept-caused Stream.spec c.args.core.now.state _ (close c.args.conn) _ _ c.close.ensures
       (c.new-none.ensures ∙ sym (close-silent Stream.spec c.args.core.now.state c.args.conn)) c.in_ok-effects.ensures.effects;
 }

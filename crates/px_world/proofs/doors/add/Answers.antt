@@ -1,14 +1,11 @@
-use Rattle.std.proofs.Common.{refl, subst, sym}
-use Rattle.px_world.specs.Event.{links_after}
-use Rattle.px_world.specs.declared.doors.Door.{Door}
-use Rattle.px_session.specs.declared.event.Event.TheVariants.{Connect}
-use Rattle.px_world.specs.Running.{Open}
+use Rattle.std.proofs.Common.{rules, Some, refl}
 use Rattle.px_world.proofs.Openings.{doors-connect}
 use Rattle.px_world.proofs.doors.add.Goals as goal
 
+pub returns-in_err-insert-clause-err : goal.returns-in_err-insert-clause-err
+returns-in_err-insert-clause-err c = search rules
+
 pub returns-clause-opened : goal.returns-clause-opened
-returns-clause-opened c =
-    let door : Door = record { conn = c.args.conn; decoder = c.new-decoder.result } in
-    λ links opened.
-    subst (λ l. Open l (links_after links (Connect c.args.conn))) (sym c.in_ok-push.ensures.items)
-    (doors-connect c.args.doors.now.items links opened c.args.conn door refl c.new-decoder.ensures.fed)
+returns-clause-opened c = λ links opened.
+    doors-connect c.args.doors.now.entries links c.args.conn opened c.insert.new.self.entries (Some c.new.result) c.in_ok-insert.ensures.updates.1 c.in_ok-insert.ensures.updates.2
+    c.new.result refl c.new.ensures.fed c.requires
