@@ -6,7 +6,6 @@ use Rattle.std.proofs.lemmas.List.{append-nil, drop_more}
 use Rattle.std.proofs.lemmas.List.Elements.{All-drop}
 use Rattle.std.proofs.lemmas.Bool.Decides.{nat_tests}
 use Rattle.px_subscribe.specs.declared.event.Facility.{Facility}
-use Rattle.px_subscribe.specs.declared.event.Kind.{Kind}
 use Rattle.px_subscribe.specs.declared.event.Event.{Event}
 use Rattle.px_subscribe.specs.Became.{became, events_at}
 use Rattle.px_subscribe.specs.Walk.{said, object_at, events_in, RisesFrom, first_index, head_at, rest_at, next_in}

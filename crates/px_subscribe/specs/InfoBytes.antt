@@ -9,7 +9,6 @@ use Rattle.px_reply.specs.declared.info.ServerInfo.{ServerInfo}
 use Rattle.px_reply.specs.Front.{reply_to}
 use Rattle.px_reply.specs.Info.{with_sink, with_input, with_client}
 use Rattle.px_ctl_info.specs.Clients.{SERVER_VERSION}
-use Rattle.px_subscribe.specs.declared.event.Facility.{Facility}
 use Rattle.px_subscribe.specs.declared.event.Facility.TheVariants.{Sink, Input, Client}
 use Rattle.px_subscribe.specs.declared.event.Event.{Event}
 use Rattle.px_subscribe.specs.declared.between.Counts.{Counts}

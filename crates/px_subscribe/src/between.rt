@@ -1,12 +1,11 @@
 //! The events between two moments.
 
-ghost use Rattle.std.specs.Prelude.{◌≡◌, ◌++◌, ◌≤◌, Option, All, IfSome, IfOk, OnOk};
+ghost use Rattle.std.specs.Prelude.{◌≡◌, ◌++◌, Option, All, IfSome, IfOk, OnOk};
 ghost use Rattle.std.specs.Option.{option_to_list};
 ghost use Rattle.px_reply.specs.Info.{server_reply};
 ghost use Rattle.px_ctl_info.specs.Clients.{SERVER_VERSION};
 ghost use Rattle.px_subscribe.specs.declared.event.Facility.TheVariants.{Sink, Input, Client, Server};
 ghost use Rattle.std.specs.Option.{option_map};
-ghost use Rattle.px_subscribe.specs.Infos.{Given};
 ghost use Rattle.px_subscribe.specs.Became.{NO_INDEX, became, event, events_between};
 ghost use Rattle.px_subscribe.specs.InfoBytes.{IsWritableSink, IsWritableInput, IsWritableClient, IsWritableServer, AreWritable, infos_in, given_by, sinks_events, inputs_events, clients_events};
 

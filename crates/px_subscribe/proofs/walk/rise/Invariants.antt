@@ -1,4 +1,4 @@
-use Rattle.std.proofs.Common.{◌≡◌, drop}
+use Rattle.std.proofs.Common.{drop}
 use Rattle.px_subscribe.specs.Walk.{RisesFrom}
 use Rattle.px_subscribe.proofs.walk.rise.Given as goal
 
