@@ -1,3 +1,4 @@
 pub mod Changes
 pub mod Listed
 pub mod Visible
+pub mod Halved

@@ -1,7 +1,7 @@
 -- An input's list found at a place, and the lists after it has changed.
-use Rattle.std.proofs.Common.{arith, ◌≡◌, ℕ, ◌<◌, nat_lt, true, false, List, [], ◌∷◌, ◌++◌, suc, zero, length, get_or, slice_set, None, Some, refl, ap}
+use Rattle.std.proofs.Common.{arith, ◌≡◌, ℕ, ◌<◌, nat_lt, Bool, true, false, List, [], ◌∷◌, ◌++◌, suc, zero, length, get_or, slice_set, None, Some, refl, ap}
 use Rattle.std.proofs.lemmas.List.Quantifiers.{position-Some}
-use Rattle.std.specs.List.{position, remove, position_or_len}
+use Rattle.std.specs.List.{find, position, remove, position_or_len}
 use Rattle.px_types.specs.declared.ids.InputId.{InputId}
 use Rattle.px_tag.specs.PropList.{Property}
 use Rattle.px_names.specs.declared.input_lists.InputList.{InputList}
@@ -48,3 +48,23 @@ undropped_by input (x ∷ xs) h =
 
 pub undropped : (input : InputId) (xs : List InputList) → position (is_of input) xs ≡ None → xs ≡ without_list_of input xs
 undropped input xs none = undropped_by input xs (nothing (nat_lt (position_or_len (is_of input) xs) (length xs)) (position_or_len (is_of input) xs) none)
+
+found_at : (is : InputList → Bool) (xs : List InputList) (i : ℕ) (d : InputList) → i < length xs → is (get_or xs i d) ≡ true → ((k : ℕ) → k < i → is (get_or xs k d) ≡ false) → find is xs ≡ Some (get_or xs i d)
+found_at is [] i d within so before = absurd (omega arith)
+found_at is (x ∷ xs) zero d within so before = rw so refl
+found_at is (x ∷ xs) (suc i) d within so before = rw (before 0 (omega arith)) (found_at is xs i d (omega arith) so (λ k less. before (suc k) (omega arith)))
+
+-- what stands at the place is what is found
+pub found_there : (is : InputList → Bool) (xs : List InputList) (i : ℕ) (d : InputList) → position is xs ≡ Some i → find is xs ≡ Some (get_or xs i d)
+found_there is xs i d found =
+    let p = position-Some is xs i d found in
+    found_at is xs i d (p.0) (p.1) (p.2)
+
+unfound_by : (is : InputList → Bool) (xs : List InputList) → nat_lt (position_or_len is xs) (length xs) ≡ false → find is xs ≡ None
+unfound_by is [] h = refl
+unfound_by is (x ∷ xs) h =
+    let b = behind (is x) (position_or_len is xs) (length xs) h in
+    rw (b.0) (unfound_by is xs (b.1))
+
+pub unfound : (is : InputList → Bool) (xs : List InputList) → position is xs ≡ None → find is xs ≡ None
+unfound is xs none = unfound_by is xs (nothing (nat_lt (position_or_len is xs) (length xs)) (position_or_len is xs) none)

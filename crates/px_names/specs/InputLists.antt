@@ -1,5 +1,5 @@
 -- The property lists of sink inputs: each is found by its input's index.
-use Rattle.std.specs.Prelude.{ℕ, Bool, cond, nat_eq, List, [], ◌∷◌, Option, None, Some}
+use Rattle.std.specs.Prelude.{⊤, ℕ, ◌+◌, ◌≤◌, Bool, cond, nat_eq, List, [], ◌∷◌, Option, None, Some}
 use Rattle.std.specs.List.{find}
 use Rattle.px_types.specs.declared.ids.InputId.{InputId}
 use Rattle.px_tag.specs.PropList.{Property}
@@ -32,3 +32,8 @@ with_list_of input list (l ∷ lists) = cond (is_of input l) (record l { list = 
 abbrev pub without_list_of : InputId → List InputList → List InputList
 without_list_of input [] = []
 without_list_of input (l ∷ lists) = cond (is_of input l) lists (l ∷ without_list_of input lists)
+
+-- the indices of the inputs rise: each is at least `least`, and above those before it
+abbrev pub RisesFrom : ℕ → List InputList → Type 0
+RisesFrom least [] = ⊤
+RisesFrom least (l ∷ lists) = (least ≤ l.input.0) × RisesFrom (l.input.0 + 1) lists
