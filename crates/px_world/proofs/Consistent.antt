@@ -140,7 +140,7 @@ spare_others zero k sink apart = (tt, tt)
 spare_others (suc n) k sink apart = (apart, spare_others n k sink apart)
 
 -- what the sink has after it
-turn_left : (core : State Stream) (k : ℕ) (s : SinkSpec) (n : ℕ) → IsConsistent Stream.spec core → slice_get core.sinks k ≡ Some s
+pub turn_left : (core : State Stream) (k : ℕ) (s : SinkSpec) (n : ℕ) → IsConsistent Stream.spec core → slice_get core.sinks k ≡ Some s
     → inputs_there (stepped_by Stream.spec core (turn_steps n k)) (sink_id k) ≡ inputs_left_by Stream.spec (inputs_there core (sink_id k)) (map view (take n (waiting_for core (sink_id k))))
 turn_left core k s n consistent there =
     let all : Heard Stream.spec s (inputs_there core (sink_id k)) (inputs_there (stepped_by Stream.spec core (turn_steps n k)) (sink_id k)) (posted_by_steps Stream.spec (sink_id k) core (turn_steps n k)) =
@@ -149,7 +149,7 @@ turn_left core k s n consistent there =
     (posted_joined Stream.spec (sink_id k) (replicate n (out (sink_id k))) (sweep ∷ []) core ∙ (append-nil (posted_by_steps Stream.spec (sink_id k) core (outs_of n (sink_id k))) ∙ outs_take Stream.spec (sink_id k) n core consistent))
 
 -- the mixer after it
-turned_is : (core after : State Stream) (k : ℕ) (s : SinkSpec) (m : Mixer) (frames : ℕ) (messages : List (Message Stream)) → IsMixerOf core k s m → AreFor m.sink messages → frames ≤ m.sink.filled - m.sink.consumed
+pub turned_is : (core after : State Stream) (k : ℕ) (s : SinkSpec) (m : Mixer) (frames : ℕ) (messages : List (Message Stream)) → IsMixerOf core k s m → AreFor m.sink messages → frames ≤ m.sink.filled - m.sink.consumed
     → inputs_there after (sink_id k) ≡ inputs_left_by Stream.spec (specs_of m.sink.inputs) messages → IsMixerOf after k s (mixer_turned m frames messages)
 turned_is core after k s m frames messages h are few left =
     cond_both (is_to_stop m)
@@ -196,7 +196,7 @@ module _ (core : State Stream) (mixers : List Mixer) (k : ℕ) (s : SinkSpec) (m
       (stays core (turn_steps n k) (sink_id index) t h.core_consistent (steps_are n k) old (spare_others n k (sink_id index) apart))
       (h.each index t x old (sym (get-set_other mixers k index next apart) ∙ at))
 
-  turn_consistent : AreConsistent (stepped_by Stream.spec core (turn_steps n k)) (set mixers k next)
+  pub turn_consistent : AreConsistent (stepped_by Stream.spec core (turn_steps n k)) (set mixers k next)
   turn_consistent = record {
     core_consistent = steps_keep Stream.spec core (turn_steps n k) (steps_are n k) h.core_consistent;
     carried = (steps_carry HasStream Stream.spec (turn_steps n k) core (steps_are n k) (steps_take_none n k) h.core_consistent (whole core h.carried)).carry;

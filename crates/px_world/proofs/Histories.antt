@@ -76,7 +76,7 @@ frames_there m frames n waiting e =
     (or_else-none (cond (nat_lt LAST_FILLED m.sink.filled) (Some WorldFault.Worn) None) (or_else (too_many frames (m.sink.filled - m.sink.consumed)) (too_many n waiting)) e).1 in
     not_too_many frames (m.sink.filled - m.sink.consumed) (or_else-none (too_many frames (m.sink.filled - m.sink.consumed)) (too_many n waiting) past).0
 
-can_be : (m : Mixer) (frames : ℕ) (messages : List (Message Stream)) (b : Bool) → is_to_stop m ≡ b → frames ≤ m.sink.filled - m.sink.consumed
+pub can_be : (m : Mixer) (frames : ℕ) (messages : List (Message Stream)) (b : Bool) → is_to_stop m ≡ b → frames ≤ m.sink.filled - m.sink.consumed
     → CanBe m.sink (cond b (stop messages) (turn frames messages))
 can_be m frames messages true e h = tt
 can_be m frames messages false e h = (h, (or_parts m.sink.stopped m.failing e).0)
@@ -104,7 +104,7 @@ turned-sink m frames messages false e =
     (mixer_stopped m messages)
     (mixer_played m frames messages) e)
 
-turn-played : (m : Mixer) (frames : ℕ) (messages : List (Message Stream)) (b : Bool) → is_to_stop m ≡ b
+pub turn-played : (m : Mixer) (frames : ℕ) (messages : List (Message Stream)) (b : Bool) → is_to_stop m ≡ b
     → cond (is_to_stop m) [] (played_by m.sink frames) ≡ played_of m.sink (cond b (stop messages) (turn frames messages)) ++ []
 turn-played m frames messages true e = cond-true (is_to_stop m) [] (played_by m.sink frames) e
 turn-played m frames messages false e =

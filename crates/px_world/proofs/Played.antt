@@ -11,9 +11,8 @@ use Rattle.px_model.specs.Notice.{Notice}
 use Rattle.px_model.specs.Sink.{Sink, IsSink}
 use Rattle.px_model.specs.Stream.{Stream}
 use Rattle.px_model.specs.Turn.{turned, turn_notices, played_by}
-use Rattle.px_lane.specs.Lane.{IsAttached}
+use Rattle.px_lane.specs.Lane.{IsAttached, played_more}
 use Rattle.px_stream.specs.Samples.{samples}
-use Rattle.px_lane.specs.Turned.{Plays}
 use Rattle.px_world.specs.Event.{is_to_stop, mixer_stopped, mixer_played, mixer_turned, played_of, is_stopping, stopped_of}
 use Rattle.px_world.specs.World.{Mixer}
 
@@ -43,22 +42,19 @@ pub record Leaves (sink : Sink) (d d' : MemoryDevice) (frames n : ℕ) : Type 0 
   pub bytes : d'.played ≡ concat (played_by sink frames)
   pub quiet : (d'.stopping || d'.failed) ≡ false
 
-armed : MemoryDevice → ℕ → MemoryDevice
-armed d frames = record d { armed = Some (min frames d.depth) }
-
-pub leaves : (sink sink' : Sink) (d d' : MemoryDevice) (frames consumed n before after : ℕ) (messages : List (Message Stream)) → IsSink sink → frames ≤ sink.filled - sink.consumed → d.played ≡ []
-    → (IsFalse sink.stopped → IsAttached (state_of d) sink)
-    → Plays state_of (record { sink = sink; device = record d { armed = Some (min frames d.depth) }; faults = before }) (record { sink = sink'; device = d'; faults = after }) messages consumed n
-    → Leaves sink d d' frames n
-leaves sink sink' d d' frames consumed n before after messages consistent there taken attached plays =
-    let visible = consumes (d.stopping || d.failed) (min frames d.depth) (sink.filled - sink.consumed) n plays.visible in
-    let at = attached plays.going in
+pub leaves : (sink : Sink) (d d' : MemoryDevice) (frames n : ℕ) → IsSink sink → frames ≤ sink.filled - sink.consumed → d.played ≡ [] → (IsFalse sink.stopped → IsAttached (state_of d) sink) → IsFalse sink.stopped
+    → Consumes (state_of (record d { armed = Some (min frames d.depth) })).next (sink.filled - sink.consumed) n
+    → (state_of d').played ≡ played_more (state_of (record d { armed = Some (min frames d.depth) })).buffer (state_of (record d { armed = Some (min frames d.depth) })).played (concat (played_by sink n))
+    → is_failing (state_of d').next ≡ is_failing (state_of (record d { armed = Some (min frames d.depth) })).next → Leaves sink d d' frames n
+leaves sink d d' frames n consistent there taken attached still seen played steady =
+    let visible = consumes (d.stopping || d.failed) (min frames d.depth) (sink.filled - sink.consumed) n seen in
+    let at = attached still in
     let count : n ≡ frames = omega (arith, visible.1, there, consistent.filled_bounded, at.depth) in
     record {
-      going = neither sink.stopped (d.stopping || d.failed) plays.going visible.0;
+      going = neither sink.stopped (d.stopping || d.failed) still visible.0;
       count = count;
-      bytes = same_some d'.played (d.played ++ concat (played_by sink n)) plays.played ∙ ap (λ bytes. bytes ++ concat (played_by sink n)) taken ∙ ap (λ k. concat (played_by sink k)) count;
-      quiet = sym (failing (d'.stopping || d'.failed) (set_of d'.armed d'.each d'.left)) ∙ plays.steady ∙ failing (d.stopping || d.failed) (min frames d.depth) ∙ visible.0;
+      bytes = same_some d'.played (d.played ++ concat (played_by sink n)) played ∙ ap (λ bytes. bytes ++ concat (played_by sink n)) taken ∙ ap (λ k. concat (played_by sink k)) count;
+      quiet = sym (failing (d'.stopping || d'.failed) (set_of d'.armed d'.each d'.left)) ∙ steady ∙ failing (d.stopping || d.failed) (min frames d.depth) ∙ visible.0;
     }
 
 pub mixer-same : (m : Mixer) (frames : ℕ) (messages : List (Message Stream)) (sink : Sink) (notices : List (Notice Stream)) (fails : Bool) → is_to_stop m ≡ false → sink ≡ turned samples m.sink frames messages

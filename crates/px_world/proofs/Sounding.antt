@@ -195,7 +195,7 @@ pub notices-spare : (other sink : SinkId) (ns : List (Notice Stream)) → AllByR
 notices-spare other sink [] = (tt, tt)
 notices-spare other sink (n ∷ ns) = (tt, notices-spare other sink ns)
 
-sink-there : {A : Type 0} (xs : List A) (k : ℕ) → k < length xs → (x : A) × (slice_get xs k ≡ Some x)
+pub sink-there : {A : Type 0} (xs : List A) (k : ℕ) → k < length xs → (x : A) × (slice_get xs k ≡ Some x)
 sink-there [] k h = absurd (omega (arith, h))
 sink-there (x ∷ xs) zero h = (x, refl)
 sink-there (x ∷ xs) (suc k) h = sink-there xs k (omega (arith, h))

@@ -36,8 +36,8 @@ fn admit(core: &mut WorldCore, doors: &mut Doors, alloc: Global, conn: ConnId) -
     Ok(effects)
 }
 
-/// A client connects.
-pub(crate) fn connect(
+/// A client connects whose number isn't live: `Live` where it is. Takes memory for its decoder; where that runs out, what was under way is lost.
+pub fn connect(
     core: &mut WorldCore,
     doors: &mut Doors,
     alloc: Global,
@@ -90,8 +90,9 @@ fn receive(
     }
 }
 
-/// Bytes arrive from a client. Their text is then held as a spare, to be used again.
-pub(crate) fn bytes(
+/// Bytes arrive from a client, in whatever pieces: `NotLive` where its number isn't live. Their text is then held as a spare, to be used again. Takes
+/// memory for what the frames among them cause; where that runs out, what was under way is lost.
+pub fn bytes(
     core: &mut WorldCore,
     doors: &mut Doors,
     alloc: Global,
@@ -160,8 +161,8 @@ fn leave(core: &mut WorldCore, doors: &mut Doors, alloc: Global, conn: ConnId) -
     Ok(effects)
 }
 
-/// A client has closed its connection.
-pub(crate) fn close(
+/// A client has closed its connection: `NotLive` where its number isn't live. Where memory runs out, what was under way is lost.
+pub fn close(
     core: &mut WorldCore,
     doors: &mut Doors,
     alloc: Global,
@@ -199,8 +200,9 @@ fn cut_off(core: &mut WorldCore, alloc: Global, conn: ConnId) -> Mem<Effects>
     Ok(effects)
 }
 
-/// The server ends a connection, as memory ran out.
-pub(crate) fn cut(
+/// The server ends a connection, as memory ran out for its client: `NotLive` where its number isn't live. Where memory runs out here, what was under way is
+/// lost.
+pub fn cut(
     core: &mut WorldCore,
     doors: &Doors,
     alloc: Global,

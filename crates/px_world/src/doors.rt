@@ -17,7 +17,7 @@ use std::alloc::Global;
 use std::collections::BTreeMap;
 
 /// The decoder of each connection that a client has opened and not closed, by its number: each look-up takes the logarithm of their count.
-pub(crate) type Doors = BTreeMap<u32, Decoder>;
+pub type Doors = BTreeMap<u32, Decoder>;
 
 /// Whether there is a door of connection `conn`. Takes no memory.
 pub(crate) fn is_there(doors: &Doors, conn: ConnId) -> bool

@@ -10,6 +10,7 @@ mod frames;
 mod law;
 mod outcome;
 mod parcel;
+pub mod parts;
 mod playing;
 mod run;
 mod sinks;

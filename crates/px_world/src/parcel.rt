@@ -11,7 +11,7 @@ use std::marker::Model;
 /// A stream between two sinks (PulseAudio: a sink input between `pa_sink_input_start_move` and `pa_sink_input_finish_move`). Contracts see the stream
 /// alone, without its spare room.
 #[derive(Debug, Drop)]
-pub(crate) struct Carried {
+pub struct Carried {
     stream: Stream,
 }
 

@@ -44,8 +44,8 @@ pub(crate) struct Sound {
     pub stopped: Option<u64>,
 }
 
-// The shape of a sink's device.
-fn shape_of(sink: &SinkSpec) -> DeviceShape
+/// The shape of the device of a sink of a header. Takes no memory.
+pub fn shape_of(sink: &SinkSpec) -> DeviceShape
     requires { (earlier : List Spec) × IsSink earlier sink.now }
     ensures { result ≡ record { frame = frame_size_of sink.now.spec; rate = sink.now.spec.rate; guard = sink.now.guard; depth = sink.now.depth } }
 {

@@ -24,8 +24,8 @@ use px_session::Event;
 use px_types::ConnId;
 use std::alloc::Global;
 
-// The outcome of an event of a connection, which plays nothing and stops no sink.
-fn silent(alloc: Global, done: Result<Effects, WorldFault>) -> Result<Outcome, WorldFault>
+/// The outcome of an event of a connection, which plays nothing and stops no sink. Takes no memory.
+pub fn silent(alloc: Global, done: Result<Effects, WorldFault>) -> Result<Outcome, WorldFault>
     ensures { IsSilent done result }
 {
     match done {

@@ -29,14 +29,14 @@ use px_types::{Mem, SinkId};
 use std::alloc::Global;
 
 /// No bytes. Takes no memory.
-pub(crate) fn silence(alloc: Global) -> Played
+pub fn silence(alloc: Global) -> Played
     ensures { result ≡ [] }
 {
     Played::from_vec(Vec::new(alloc))
 }
 
-// The core takes the first `count` of a mixer's notices.
-fn collect_from(
+/// The core takes the first `count` of a mixer's notices, and what has ended is swept away. Without memory the notices that were taken are lost.
+pub fn collect_from(
     core: &mut WorldCore,
     notices: &mut NoticeList,
     alloc: Global,

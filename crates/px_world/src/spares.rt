@@ -20,7 +20,7 @@ pub struct Spares {
 
 impl Spares {
     /// Holds no blocks. Takes the memory for their places, and not for the blocks.
-    pub(crate) fn new(alloc: Global) -> Mem<Spares> {
+    pub fn new(alloc: Global) -> Mem<Spares> {
         Ok(Spares {
             alloc,
             blocks: Vec::with_capacity(alloc, MAX_INPUTS_ON_SINK)?,
@@ -42,14 +42,14 @@ impl Spares {
     }
 
     /// Holds a text whose bytes are done with, in place of the one before. Takes no memory.
-    pub(crate) fn reclaim_text(&mut self, text: Text)
+    pub fn reclaim_text(&mut self, text: Text)
         ensures { self.new.text ≡ Some text }
     {
         self.text = Some(text);
     }
 
     /// Takes the held text, if there is one. Takes no memory.
-    pub(crate) fn take_text(&mut self) -> Option<Text>
+    pub fn take_text(&mut self) -> Option<Text>
         ensures { result ≡ self.old.text }
     {
         self.text.take()

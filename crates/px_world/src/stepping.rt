@@ -21,7 +21,7 @@ use std::alloc::Global;
 use std::collections::VecDeque;
 
 /// The core of the world: what moves between sinks are streams.
-pub(crate) type WorldCore = Core<Carried>;
+pub type WorldCore = Core<Carried>;
 
 /// Handles a frame of a connection.
 pub(crate) fn take_one(core: &mut WorldCore, conn: ConnId, frame: Frame) -> Mem<Effects>
@@ -112,7 +112,7 @@ pub(crate) fn take_given(
 }
 
 /// Moves the first `count` messages that wait for a sink to the end of `messages`.
-pub(crate) fn take_messages(
+pub fn take_messages(
     core: &mut WorldCore,
     sink: SinkId,
     count: u64,
@@ -175,7 +175,7 @@ pub(crate) fn take_notices(
 }
 
 /// Sweeps the connections that have ended, and appends the effects.
-pub(crate) fn swept(core: &mut WorldCore, effects: Effects) -> Mem<Effects>
+pub fn swept(core: &mut WorldCore, effects: Effects) -> Mem<Effects>
     ensures core { OnOk result (core.new.state ≡ stepped_by Plain.spec core.old.state (Step.sweep ∷ [])) }
     ensures effects { IfOk result (λ all. all ≡ effects ++ effects_by Plain.spec core.old.state (Step.sweep ∷ [])) }
 {

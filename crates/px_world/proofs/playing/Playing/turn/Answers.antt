@@ -26,8 +26,9 @@ turns c =
 
 left : (c : goal.In-Played) → Leaves c.args.self.now.lane.sink c.args.self.now.lane.device c.counted.new.lane.device c.args.frames c.in-Played.frames
 left c =
-    leaves c.args.self.now.lane.sink c.counted.new.lane.sink c.args.self.now.lane.device c.counted.new.lane.device c.args.frames c.in-Played.consumed c.in-Played.frames c.args.self.now.lane.faults c.counted.new.lane.faults c.args.messages.now.messages
-    c.requires.consistent c.requires.there c.requires.playing.taken c.requires.playing.attached (turns c).0
+    let plays = (turns c).0 in
+    leaves c.args.self.now.lane.sink c.args.self.now.lane.device c.counted.new.lane.device c.args.frames c.in-Played.frames
+    c.requires.consistent c.requires.there c.requires.playing.taken c.requires.playing.attached plays.going plays.visible plays.played plays.steady
 
 pub returns-in-Played-clause-mixer : goal.returns-in-Played-clause-mixer
 returns-in-Played-clause-mixer c =

@@ -1,0 +1,9 @@
+pub mod Buffers
+pub mod Sounding
+pub mod Played
+pub mod Beginning
+pub mod Standings
+pub mod Histories
+pub mod Decided
+pub mod Beside
+pub mod Runs
