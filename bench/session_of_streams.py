@@ -2,7 +2,7 @@
 """Writes a recorded session that plays SECONDS of sound from STREAMS streams.
 
   bench/session_of_streams.py SECONDS STREAMS [DEPTH [QUEUED]] [--record] [--format FORMAT] [--channels CHANNELS] [--sinks SINKS]
-                              [--write FRAMES] [--moves] > FILE.prs
+                              [--write FRAMES] [--moves] [--volumes] > FILE.prs
 
 One sink of S16LE, stereo, at 48,000 frames a second, where nothing else is said. Each turn plays 480 frames; before it each stream is sent its
 next 480 frames, and after it all notices are collected. The guard is a turn, and the depth two (960 frames) where nothing
@@ -12,7 +12,7 @@ Both are whole turns. Up to 64 streams each is of a client of its own, above tha
 their first frame to the end, a tone each. With --record one more client records what the sink plays (for `replay --monitor`).
 FORMAT is s16le or s32le. With SINKS the streams are spread over as many sinks, one after the other, and each makes the same turns.
 FRAMES, a part of a turn, are sent at a time, a turn's where nothing else is said. With --moves there are two sinks, and the first stream
-moves to the other one at each turn."""
+moves to the other one at each turn; with --volumes the first stream's volume changes at each."""
 
 import math
 import os
@@ -38,7 +38,7 @@ connect 1000
 auth 1000 tag 0 version 13
 create-record 1000 tag 1 s16le 2 48000 map 1,2
 """
-MOVE = 67
+MOVE, VOLUME = 67, 37
 
 
 @dataclass
@@ -55,6 +55,7 @@ class Shape:
     sinks: int = 1
     write: int = TURN
     moves: bool = False
+    volumes: bool = False
 
     def frame(self):
         """The bytes of a frame."""
@@ -105,6 +106,12 @@ def move_of(tag, sink):
     return spelled_bytes(1, wire.packet_frame(b"".join(map(wire.number, fields)) + wire.text(None)))
 
 
+def volume_of(turn):
+    """The event by which the first stream is half as loud at even turns, and as loud as it is at others."""
+    fields = [VOLUME, 2 + turn, 0]
+    return spelled_bytes(1, wire.packet_frame(b"".join(map(wire.number, fields)) + wire.volume([0x10000 if turn % 2 else 0x8000])))
+
+
 def write(out, shape):
     # A stream asks for two turns more than wait, so that it asks for a turn's frames at each turn.
     target = shape.frame() * (shape.queued + 2 * TURN)
@@ -126,10 +133,11 @@ def write(out, shape):
     for sink, count in enumerate(counts):
         out.write(spelled_turn(sink, 0, (2 + ahead * writes) * count) + spelled_turn(sink, None, count))
     for turn in range(shape.seconds * len(data)):
-        out.write(data[(turn + ahead) % len(data)])
+        out.write((volume_of(turn) if shape.volumes else b"") + data[(turn + ahead) % len(data)])
         for sink, count in enumerate(counts):
+            told = shape.volumes and sink == 0  # the factors of its inputs
             # At the first of these turns each stream tells that it started, too.
-            out.write(spelled_turn(sink, TURN, writes * count) + spelled_turn(sink, None, count if turn else 2 * count))
+            out.write(spelled_turn(sink, TURN, writes * count + told) + spelled_turn(sink, None, count if turn else 2 * count))
     return out.write(b"\0")
 
 
@@ -154,7 +162,7 @@ def read_words(words):
     shape, numbers, words = Shape(0, 0, 0, 0), [], list(words)
     while words:
         word = words.pop(0)
-        if word in ("--record", "--moves"):
+        if word in ("--record", "--moves", "--volumes"):
             setattr(shape, word[2:], True)
         elif word == "--format" and words and words[0] in SAMPLES:
             shape.format = words.pop(0)

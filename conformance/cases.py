@@ -1,9 +1,10 @@
-"""The runs of rows: as their sessions are, cut otherwise, converted, and by `replay --monitor` and `replay --samples` in place of `replay`."""
+"""The runs of rows: as their sessions are, cut otherwise, converted, and by `replay --monitor`, `replay --samples` and `replay --ramp` in place of
+`replay`."""
 
 import copy
 import re
 
-from packets import COMMANDS, RECORDERS, SAMPLERS, Spoken
+from packets import COMMANDS, RECORDERS, SAMPLERS, Spoken, fields_at, read_packet
 from records import whole_frames
 from recording import TWO, Place, Session, read_event, read_header, spelled_bytes, spelled_event, spelled_header
 from renumbered import fits, renumbered
@@ -11,11 +12,14 @@ from wire import CONTROL, number
 from words import Wrong
 
 WHOLE = "whole"
-REPLAY, MONITOR, SAMPLES = ["replay"], ["replay", "--monitor"], ["replay", "--samples"]
+REPLAY, MONITOR, SAMPLES, RAMP = ["replay"], ["replay", "--monitor"], ["replay", "--samples"], ["replay", "--ramp", "30"]
 LONGEST_CUT = 4_000_000  # bytes of a session that is cut in small pieces too
 REFUSAL = re.compile(r"pulse_rw: refused at ([0-9]+): (.*\n)")
-KILL = number(COMMANDS["kill-client"][0])  # how a KILL_CLIENT begins
-RECORDS, UPLOADS = (tuple(number(COMMANDS[word][0]) for word in words) for words in (RECORDERS, SAMPLERS))  # how packets of these commands begin
+KILL, CREATE = (number(COMMANDS[word][0]) for word in ("kill-client", "create"))  # how these commands begin
+LOUDNESS = ("volume", "sink-volume", "mute", "sink-mute", "move")  # by which factors change
+# how packets of these commands begin
+RECORDS, UPLOADS, CHANGES = (tuple(number(COMMANDS[word][0]) for word in words) for words in (RECORDERS, SAMPLERS, LOUDNESS))
+FULL = 0x10000  # the volume of a stream that is as loud as it is
 
 
 def parts_of(session):
@@ -92,10 +96,11 @@ def cases_of(rows, cuts, convert):
             yield from conversions_of(row)
 
 
-def all_cases(rows, cuts, convert, monitor, samples):
-    """(label, row, session) for each run, those of ordinary rows by `replay --monitor` and by `replay --samples` last."""
+def all_cases(rows, cuts, convert, monitor, samples, ramp):
+    """(label, row, session) for each run, those of ordinary rows by `replay --monitor`, by `replay --samples` and by `replay --ramp` last."""
     yield from cases_of(rows, cuts, convert)
-    for asked, label, others in ((monitor, "by --monitor", monitored), (samples, "by --samples", sampled)):
+    modes = (monitor, "by --monitor", monitored), (samples, "by --samples", sampled), (ramp, "by --ramp", ramped)
+    for asked, label, others in modes:
         if asked:
             cases = cases_of(others(row for row in rows if row.words == REPLAY), cuts, False)
             yield from ((f"{it}, {label}", row, session) for it, row, session in cases)
@@ -117,6 +122,30 @@ def sampled(rows):
         read = parts_of(row.session)[0]
         if read and fits(read.events) and not sends(row.session, UPLOADS) and is_swept_alike(row) and row.form == "records":
             yield renumbered(row, SAMPLES, read)
+
+
+def ramped(rows):
+    """Those of the rows that give the same by `replay --ramp`: no factor of an input changes, since no volume changes and all streams are as loud as
+    they are."""
+    for row in rows:
+        if not sends(row.session, CHANGES) and not any(is_softened(*it) for it in created(row.session)):
+            row = copy.copy(row)
+            row.words = RAMP
+            yield row
+
+
+def created(session):
+    """Each packet that begins as a CREATE does, with the version of its client."""
+    for conn, payload, spoken in packets_in(session):
+        if payload.startswith(CREATE) and conn in spoken.versions:
+            yield payload, spoken.versions[conn]
+
+
+def is_softened(payload, version):
+    """Whether a CREATE, if it is one, asks for another volume than the full one."""
+    read = read_packet(payload, version)
+    asked = dict(zip((name for name, _, _ in fields_at("create", version)), read[2])) if read else {"volume": [FULL]}
+    return any(volume != FULL for volume in asked["volume"])
 
 
 def is_swept_alike(row):
@@ -142,6 +171,11 @@ def kills_within(session):
 
 def sends(session, fronts):
     """Whether a client sends a packet with one of these fronts once its AUTH was taken."""
+    return any(payload.startswith(fronts) and conn in spoken.versions for conn, payload, spoken in packets_in(session))
+
+
+def packets_in(session):
+    """The connection and the payload of each control frame, and the versions that clients spoke before it."""
     read, held, spoken = parts_of(session)[0], {}, Spoken()
     for event in read.events if read else []:
         if event[0] == 1:
@@ -151,8 +185,6 @@ def sends(session, fronts):
             data = held.setdefault(event[1], bytearray())
             data += event[2]
             for descriptor, payload in whole_frames(data):
-                if descriptor.channel == CONTROL and payload.startswith(fronts) and event[1] in spoken.versions:
-                    return True
                 if descriptor.channel == CONTROL:
+                    yield event[1], payload, spoken
                     spoken.hear(event[1], payload, read.cookie)
-    return False

@@ -49,11 +49,11 @@ class Stream:
         """The samples of the frame so far ahead, or None."""
         return self.held.get(self.read + ahead) if self.given(ahead + 1) > ahead else None
 
-    def share(self, ahead, width):
-        """What it adds to each channel of a sink of this width, so far ahead."""
+    def share(self, ahead, width, factors):
+        """What it adds to each channel of a sink of this width, so far ahead, by these factors."""
         frame, own = self.frame(ahead), samples.WIDTHS[self.spec[0]]
         fed = frame and [samples.brought(frame[channel], own, width) for channel in self.feed]
-        return fed and [value * factor >> 16 for value, factor in zip(fed, self.factors)]
+        return fed and [value * factor >> 16 for value, factor in zip(fed, factors)]
 
     def go(self, frames):
         """Goes forward, and answers what is told of it."""
@@ -98,9 +98,14 @@ class Sink:
         self.inputs = {}
         self.waiting, self.notices = [], []
 
+    def factors_of(self, number, ahead):
+        """The factors of an input `ahead` frames past the horizon."""
+        return self.inputs[number].factors
+
     def mix(self, ahead):
         width = samples.WIDTHS[self.spec.spec[0]]
-        found = [share for stream in self.inputs.values() if (share := stream.share(ahead, width))]
+        shares = (stream.share(ahead, width, self.factors_of(number, ahead)) for number, stream in self.inputs.items())
+        found = [share for share in shares if share]
         sums = [sum(parts) for parts in zip(*found)] or [0] * self.spec.spec[1]
         most = (1 << width - 1) - 1
         return b"".join(samples.sample_of(self.spec.spec[0], min(max(value, -most - 1), most)) for value in sums)

@@ -31,13 +31,16 @@ class Server(Handlers):
     """Plays a session; `said` is the output."""
 
     def __init__(self, cookie, sinks):
-        self.cookie, self.sinks = cookie, [Sink(*it) for it in enumerate(sinks)]
+        self.cookie, self.sinks = cookie, [self.sink_of(*it) for it in enumerate(sinks)]
         self.fallback = self.sinks[0]  # the default sink
         self.clients, self.inputs = {}, {}
         self.waiting = []  # (input, command, tag, time), in the order in which they were asked
         self.client_count = self.input_count = 0
         self.said = bytearray()
         self.shown = None  # all infos after the last step, where somebody listens
+
+    def sink_of(self, number, spec):
+        return Sink(number, spec)
 
     def send(self, conn, command, tag, fields=b""):
         frame = wire.packet_frame(wire.number(command) + wire.number(tag) + fields)

@@ -7,7 +7,7 @@ _pulse_rw() {
         return
     fi
     case "${COMP_WORDS[1]}:$before" in
-    replay:replay) mapfile -t COMPREPLY < <(compgen -W "--raw --monitor --samples" -- "$word") ;;
+    replay:replay) mapfile -t COMPREPLY < <(compgen -W "--raw --monitor --samples --ramp" -- "$word") ;;
     serve:--header | serve:--socket) mapfile -t COMPREPLY < <(compgen -f -- "$word") ;;
     serve:--out) mapfile -t COMPREPLY < <(compgen -d -- "$word") ;;
     serve:--history) mapfile -t COMPREPLY < <(compgen -W "none memory" -- "$word") ;;

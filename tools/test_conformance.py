@@ -15,6 +15,7 @@ sys.dont_write_bytecode = True
 sys.path[:0] = [{os.path.join(TOP, "conformance")!r}, {os.path.join(TOP, "tools")!r}]
 import cached
 import monitors
+import ramps
 import reckon
 import recording
 session = sys.stdin.buffer.read()
@@ -23,7 +24,8 @@ if sys.argv[1] == "convert":
     said = bytearray(recording.spelled_header(read.cookie, read.sinks, recording.TWO))
     said += b"".join(recording.spelled_event(event, recording.TWO) for event in read.events)
 else:
-    said = bytearray((monitors if "--monitor" in sys.argv else cached if "--samples" in sys.argv else reckon).reckoned(session))
+    ramp = map(int, sys.argv[3:])
+    said = bytearray((ramps if "--ramp" in sys.argv else monitors if "--monitor" in sys.argv else cached if "--samples" in sys.argv else reckon).reckoned(session, *ramp))
 FLIP
 sys.stdout.buffer.write(said)
 """
@@ -80,6 +82,15 @@ class Running(unittest.TestCase):
         rows += [f"kills/{name}" for name in ("clients", "itself", "moving", "streams")]
         self.assertEqual(self.run_rows("", *rows), (0, f"{len(rows)} passed, 0 failed\n", ""))
         self.assertEqual(self.run_rows("", "--cut", "7", "--convert", "cache/played", "cache/faults"), (0, "6 passed, 0 failed\n", ""))
+
+    def test_ramps_are_reckoned(self):
+        """All rows of the mode, and rows of `replay` that are played twice, but for those in which a volume changes or isn't full."""
+        names = {name.rsplit(".", 1)[0] for name in os.listdir(os.path.join(TOP, "conformance", "ramps"))}
+        self.assertEqual(self.run_rows("", *(f"ramps/{name}" for name in sorted(names))), (0, f"{len(names)} passed, 0 failed\n", ""))
+        rows = ("turns/seeks", "moves/there", "volumes/taken_at_a_turn", "mix/greatest_factor", "ramps/falls")
+        self.assertEqual(self.run_rows("", "--ramp", *rows), (0, "6 passed, 0 failed\n", ""))
+        status, said, _ = self.run_rows("said[-3] ^= '--ramp' in sys.argv", "--ramp", "--cut", "9", "turns/seeks")
+        self.assertEqual((status, said.splitlines()[0], said.splitlines()[-1]), (1, "turns/seeks, in pieces of 9, by --ramp", "1 passed, 1 failed"))
 
     def test_rows_of_replay_by_the_word_for_samples(self):
         """They are played twice, but for those in which a client sends a command of samples, or has the place of the server's own connection."""

@@ -5,6 +5,7 @@ pub mod FrontLaws
 pub mod ModeLaws
 pub mod MonitorLaws
 pub mod SampleLaws
+pub mod RampLaws
 pub mod ReadLaws
 pub mod BeginLaws
 pub mod RefuseLaws

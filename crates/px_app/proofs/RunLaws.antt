@@ -22,7 +22,7 @@ use Rattle.px_app.specs.Serving.{Served}
 use Rattle.px_app.specs.Tape.{out_end}
 use Rattle.px_app.specs.Controlling.{ControlledBy}
 use Rattle.px_ctl.specs.Words.{is_ctl}
-use Rattle.px_app.specs.Words.{Command, Replay, Monitor, Samples, Convert, Gen, Serve, Control, Other, meaning_in, meaning_of, is_serve, alone_in, command_in}
+use Rattle.px_app.specs.Words.{Command, Replay, Monitor, Samples, Ramp, Convert, Gen, Serve, Control, Other, meaning_in, meaning_of, is_serve, alone_in, command_in}
 use Rattle.px_app.proofs.FineLaws.{served_fine}
 use Rattle.px_app.proofs.FrontLaws.{whole_front}
 use Rattle.px_app.proofs.PlayedLaws.{accounted_so, not_write_fault}
@@ -125,6 +125,7 @@ module _ {D R C L : Type 0} (core_visible : C → Option (List CoreEntry)) (core
   by_command (Replay shown) does host = (does, host)
   by_command Monitor does host = (does, host)
   by_command Samples does host = (does, host)
+  by_command (Ramp frames) does host = (does, host)
   by_command Convert does host = (does, host)
   by_command (Gen number count) does host = (does, host)
   by_command Other does host = (does, host)

@@ -27,7 +27,7 @@ IsReplayStatus answered = (ended : Ending) × (ended ≢ ending.Usage) × (answe
 abbrev pub line_of : Ending → List ℕ
 line_of ending.Done = []
 line_of (ending.Refused refusal) = refusal_line refusal
-line_of ending.Usage = codes "pulse_rw: usage: replay [--raw SINK | --monitor | --samples], summary, convert, gen NUMBER COUNT, serve OPTIONS, ctl --socket PATH COMMAND\n"
+line_of ending.Usage = codes "pulse_rw: usage: replay [--raw SINK | --monitor | --samples | --ramp FRAMES], summary, convert, gen NUMBER COUNT, serve OPTIONS, ctl --socket PATH COMMAND\n"
 line_of ending.Memory = codes "pulse_rw: out of memory\n"
 line_of ending.ReadFault = codes "pulse_rw: read failed\n"
 line_of ending.WriteFault = codes "pulse_rw: write failed\n"

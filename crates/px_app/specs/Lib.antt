@@ -3,6 +3,7 @@ pub mod Refusal
 pub mod Mode
 pub mod Monitor
 pub mod Samples
+pub mod Ramp
 pub mod Session
 pub mod Summary
 pub mod View

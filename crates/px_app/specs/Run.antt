@@ -15,12 +15,13 @@ use Rattle.px_app.specs.Making.{Generates}
 use Rattle.px_app.specs.Monitor.{Monitors}
 use Rattle.px_app.specs.Outside.{Outside, HostStays}
 use Rattle.px_app.specs.Plays.{IsAccounted}
+use Rattle.px_app.specs.Ramp.{Ramps}
 use Rattle.px_app.specs.Replay.{Replays}
 use Rattle.px_app.specs.Report.{Reported}
 use Rattle.px_app.specs.Samples.{Samples as PlaysSamples}
 use Rattle.px_app.specs.Serving.{Served}
 use Rattle.px_app.specs.Tape.{out_end}
-use Rattle.px_app.specs.Words.{Command, Replay, Monitor, Samples, Convert, Gen, Serve, Control, Other}
+use Rattle.px_app.specs.Words.{Command, Replay, Monitor, Samples, Ramp, Convert, Gen, Serve, Control, Other}
 
 -- Words that aren't those of the usage text: nothing was read or written, and the usage was reported.
 pub record IsUsage (answered : Status) (before after : Ends) (log_before log_after : Log) : Type 0 where
@@ -34,6 +35,7 @@ abbrev pub DoesAlone : Command → Status → Ends → Ends → Log → Log → 
 DoesAlone (Replay shown) answered before after log_before log_after = Replays shown answered before after log_before log_after
 DoesAlone Monitor answered before after log_before log_after = Monitors answered before after log_before log_after
 DoesAlone Samples answered before after log_before log_after = PlaysSamples answered before after log_before log_after
+DoesAlone (Ramp frames) answered before after log_before log_after = Ramps frames answered before after log_before log_after
 DoesAlone Convert answered before after log_before log_after = Converts answered before after log_before log_after
 DoesAlone (Gen number count) answered before after log_before log_after = Generates number count answered before after log_before log_after
 DoesAlone Other answered before after log_before log_after = IsUsage answered before after log_before log_after
@@ -62,6 +64,7 @@ module _ {D R C L : Type 0} (core_visible : C → Option (List CoreEntry)) (core
   Does (Replay shown) texts answered before after = Replays shown answered before.ends after.ends before.log after.log × HostStays before after
   Does Monitor texts answered before after = Monitors answered before.ends after.ends before.log after.log × HostStays before after
   Does Samples texts answered before after = PlaysSamples answered before.ends after.ends before.log after.log × HostStays before after
+  Does (Ramp frames) texts answered before after = Ramps frames answered before.ends after.ends before.log after.log × HostStays before after
   Does Convert texts answered before after = Converts answered before.ends after.ends before.log after.log × HostStays before after
   Does (Gen number count) texts answered before after = Generates number count answered before.ends after.ends before.log after.log × HostStays before after
   Does Other texts answered before after = IsUsage answered before.ends after.ends before.log after.log × HostStays before after

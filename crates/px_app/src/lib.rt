@@ -15,6 +15,8 @@ mod monitor_stage;
 mod monitoring;
 mod playing;
 mod program;
+mod ramp_stage;
+mod ramping;
 mod reading;
 mod records;
 mod refusal;
@@ -40,6 +42,7 @@ pub use law::{
 };
 pub use monitoring::replay_monitor;
 pub use program::run;
+pub use ramping::replay_ramp;
 pub use refusal::{Refusal, Why};
 pub use replaying::replay;
 pub use sampling::replay_samples;

@@ -20,7 +20,7 @@ fn fixed_line(ended: Ending) -> &'static [u8]
     match ended {
         Ending::Done | Ending::Refused(_) => b"",
         Ending::Usage => {
-            b"pulse_rw: usage: replay [--raw SINK | --monitor | --samples], summary, convert, gen NUMBER COUNT, serve OPTIONS, ctl --socket PATH COMMAND\n"
+            b"pulse_rw: usage: replay [--raw SINK | --monitor | --samples | --ramp FRAMES], summary, convert, gen NUMBER COUNT, serve OPTIONS, ctl --socket PATH COMMAND\n"
         }
         Ending::Memory => b"pulse_rw: out of memory\n",
         Ending::ReadFault => b"pulse_rw: read failed\n",

@@ -12,6 +12,7 @@ use crate::ending::Ending;
 use crate::log::report;
 use crate::making::make;
 use crate::monitoring::replay_monitor;
+use crate::ramping::replay_ramp;
 use crate::replaying::replay;
 use crate::sampling::replay_samples;
 use crate::serving::{is_serve, serve_reported};
@@ -48,6 +49,7 @@ fn run_alone<S: Source, K: Sink, L: Sink>(
         Some(Words::Replay(view)) => replay(alloc, view, input, output, log),
         Some(Words::Monitor) => replay_monitor(alloc, input, output, log),
         Some(Words::Samples) => replay_samples(alloc, input, output, log),
+        Some(Words::Ramp(frames)) => replay_ramp(alloc, frames, input, output, log),
         Some(Words::Convert) => convert(alloc, input, output, log),
         Some(Words::Gen { number, count }) => make(alloc, number, count, output, log),
         None => refuse_words(alloc, log),
@@ -58,8 +60,8 @@ fn run_alone<S: Source, K: Sink, L: Sink>(
 ///
 /// `replay`, `replay --raw SINK` and `summary` replay the session in `input`: see [`crate::replay`] and [`crate::View`].
 /// `replay --monitor` replays it in a world with monitors: see [`crate::replay_monitor`]; `replay --samples` in a world with a sample cache: see
-/// [`crate::replay_samples`]. `convert` writes it in
-/// the second form: see [`crate::convert`]. `gen NUMBER COUNT` writes the session generated from a number of 64 bits and a count up to 1,000,000, both in decimal digits alone: see [`px_gen::generate`]. `serve` with
+/// [`crate::replay_samples`]; `replay --ramp FRAMES`, 1 to 65,536 in decimal digits alone, in a world where volumes change by ramps: see
+/// [`crate::replay_ramp`]. `convert` writes it in the second form: see [`crate::convert`]. `gen NUMBER COUNT` writes the session generated from a number of 64 bits and a count up to 1,000,000, both in decimal digits alone: see [`px_gen::generate`]. `serve` with
 /// its options serves live clients on the sinks of the header that the host reads, and waits for them: see [`serve_by`] and [`px_server::serve`];
 /// with `--tape` the output then gets a session of what was done. `ctl --socket PATH` and the words of an errand, `list`, `volume INPUT VALUE`,
 /// `mute INPUT on` or `off`, `sink-volume NAME VALUE`, `move INPUT NAME` or `kill INPUT`, do that errand at the server that listens at the socket, with

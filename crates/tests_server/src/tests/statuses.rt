@@ -43,7 +43,7 @@ const TAPED: &str = "serve --header h --socket s --out o --accept 1 --tape";
 type Row = (&'static str, usize, usize, u64, Status, &'static [u8]);
 
 const USAGE: &[u8] =
-    b"usage: replay [--raw SINK | --monitor | --samples], summary, convert, gen NUMBER COUNT, serve OPTIONS, ctl --socket PATH COMMAND";
+    b"usage: replay [--raw SINK | --monitor | --samples | --ramp FRAMES], summary, convert, gen NUMBER COUNT, serve OPTIONS, ctl --socket PATH COMMAND";
 
 // Where the tape can't be written and the host fails, the host's fault decides.
 const ROWS: [Row; 6] = [
