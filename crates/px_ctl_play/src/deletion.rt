@@ -13,6 +13,7 @@ use px_outcome::{Change, Input, Refusal, Sending, StepOutcome, Waiting, present}
 use px_tag::Mem;
 use px_types::ErrorCode;
 use std::alloc::Global;
+use std::collections::VecDeque;
 
 // Adds the error for a request, where it is about the input.
 fn add_error(alloc: Global, errors: &mut Vec<Sending>, x: &Input, w: &Waiting) -> Mem<()>
@@ -29,11 +30,11 @@ fn add_error(alloc: Global, errors: &mut Vec<Sending>, x: &Input, w: &Waiting) -
 }
 
 /// The errors for all waiting requests of an input, in the order of the requests.
-pub(crate) fn errors_for(alloc: Global, x: &Input, waiting: &[Waiting]) -> Mem<Vec<Sending>>
-    ensures { IfOk result (λ errors. errors.items ≡ errors_for x.now waiting.now) }
+pub(crate) fn errors_for(alloc: Global, x: &Input, waiting: &VecDeque<Waiting>) -> Mem<Vec<Sending>>
+    ensures { IfOk result (λ errors. errors.items ≡ errors_for x.now waiting.now.items) }
 {
     let mut errors = Vec::new(alloc);
-    for request in waiting {
+    for request in waiting.iter() {
         add_error(alloc, &mut errors, x, request)?;
     }
     Ok(errors)
@@ -65,10 +66,10 @@ pub(crate) fn ended<M: Drop, G: Drop>(
 pub fn delete<P: Drop>(
     alloc: Global,
     stream: Option<Input>,
-    waiting: &[Waiting],
+    waiting: &VecDeque<Waiting>,
     tag: u32,
 ) -> Result<StepOutcome<Msg<P>, Group>, Refusal>
-    ensures { HandledAs result (delete stream waiting.now tag) }
+    ensures { HandledAs result (delete stream waiting.now.items tag) }
 {
     let x = present(stream, ErrorCode::NoEntity)?;
     let errors = errors_for(alloc, &x, waiting)?;

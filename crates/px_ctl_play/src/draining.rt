@@ -14,6 +14,7 @@ use px_msg::Msg;
 use px_outcome::{Awaited, Connection, Input, Refusal, StepOutcome, Waiting, present};
 use px_types::{ErrorCode, InputId, Mem, NoMemory};
 use std::alloc::Global;
+use std::collections::VecDeque;
 
 /// DRAIN_PLAYBACK_STREAM: `NoEntity` where the connection has no stream of this number, else its sink is asked to play it
 /// without waiting for prebuf and to send a notice when all of it was played. The client gets its reply then.
@@ -40,8 +41,8 @@ fn is_drain_under(input: InputId, tag: u32, request: &Waiting) -> bool
 }
 
 // The first waiting DRAIN of an input under a tag.
-fn drain_under(waiting: &[Waiting], input: InputId, tag: u32) -> Option<&Waiting>
-    ensures { option_map (λ request. request.now) result ≡ drain_under waiting.now input tag }
+fn drain_under(waiting: &VecDeque<Waiting>, input: InputId, tag: u32) -> Option<&Waiting>
+    ensures { option_map (λ request. request.now) result ≡ drain_under waiting.now.items input tag }
 {
     waiting
         .iter()
@@ -71,10 +72,10 @@ pub fn drained<P: Drop>(
     alloc: Global,
     input: Option<Input>,
     owner: Option<Connection>,
-    waiting: &[Waiting],
+    waiting: &VecDeque<Waiting>,
     tag: u32,
 ) -> Mem<StepOutcome<Msg<P>, Group>>
-    ensures { IfOk result (λ outcome. outcome ≡ drained input owner waiting.now tag) }
+    ensures { IfOk result (λ outcome. outcome ≡ drained input owner waiting.now.items tag) }
 {
     match input {
         Some(x) if goes_on(&x) => {

@@ -11,15 +11,16 @@ use crate::deletion::{ended, errors_for};
 use px_outcome::{Connection, Input, Refusal, Sending, StepOutcome, Waiting, present};
 use px_types::{ErrorCode, Mem, NoMemory};
 use std::alloc::Global;
+use std::collections::VecDeque;
 
 // The errors for all waiting requests of an input, where its connection `owner` is live.
 fn errors_to(
     alloc: Global,
     owner: Option<Connection>,
     x: &Input,
-    waiting: &[Waiting],
+    waiting: &VecDeque<Waiting>,
 ) -> px_tag::Mem<Vec<Sending>>
-    ensures { IfOk result (λ errors. errors.items ≡ errors_to owner x.now waiting.now) }
+    ensures { IfOk result (λ errors. errors.items ≡ errors_to owner x.now waiting.now.items) }
 {
     match owner {
         None => Ok(Vec::new(alloc)),
@@ -42,10 +43,10 @@ fn killed<M: Drop, G: Drop>(
     alloc: Global,
     x: &Input,
     owner: Option<Connection>,
-    waiting: &[Waiting],
+    waiting: &VecDeque<Waiting>,
     tag: u32,
 ) -> Result<StepOutcome<M, G>, Refusal>
-    ensures { HandledAs result (Ok (killed x.now owner waiting.now tag)) }
+    ensures { HandledAs result (Ok (killed x.now owner waiting.now.items tag)) }
 {
     let errors = errors_to(alloc, owner, x, waiting)?;
     let notified = notified(alloc, owner, x)?;
@@ -59,10 +60,10 @@ pub fn kill_input<M: Drop, G: Drop>(
     alloc: Global,
     input: Option<Input>,
     owner: Option<Connection>,
-    waiting: &[Waiting],
+    waiting: &VecDeque<Waiting>,
     tag: u32,
 ) -> Result<StepOutcome<M, G>, Refusal>
-    ensures { HandledAs result (kill_input input owner waiting.now tag) }
+    ensures { HandledAs result (kill_input input owner waiting.now.items tag) }
 {
     let x = present(input, ErrorCode::NoEntity)?;
     killed(alloc, &x, owner, waiting, tag)

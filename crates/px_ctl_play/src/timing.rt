@@ -19,6 +19,7 @@ use px_sample::Spec;
 use px_tag::TimeVal;
 use px_types::{ErrorCode, InputId, Mem, NoMemory};
 use std::alloc::Global;
+use std::collections::VecDeque;
 
 /// A stream's indices and run, in frames, as its sink reports them.
 #[derive(Clone, Copy, Debug, PartialEq, Eq)]
@@ -124,8 +125,8 @@ fn is_question_under(input: InputId, tag: u32, request: &Waiting) -> bool
 }
 
 // The first waiting latency request of an input under a tag.
-fn question_under(waiting: &[Waiting], input: InputId, tag: u32) -> Option<&Waiting>
-    ensures { option_map (λ request. request.now) result ≡ question_under waiting.now input tag }
+fn question_under(waiting: &VecDeque<Waiting>, input: InputId, tag: u32) -> Option<&Waiting>
+    ensures { option_map (λ request. request.now) result ≡ question_under waiting.now.items input tag }
 {
     waiting
         .iter()
@@ -161,13 +162,13 @@ pub fn measured<P: Drop>(
     alloc: Global,
     input: Option<Input>,
     owner: Option<Connection>,
-    waiting: &[Waiting],
+    waiting: &VecDeque<Waiting>,
     rate: u32,
     tag: u32,
     progress: Progress,
 ) -> Mem<StepOutcome<Msg<P>, Group>>
     requires { 1 ≤ rate }
-    ensures { IfOk result (λ outcome. outcome ≡ measured input owner waiting.now rate tag progress) }
+    ensures { IfOk result (λ outcome. outcome ≡ measured input owner waiting.now.items rate tag progress) }
 {
     match input {
         Some(x) if goes_on(&x) => {

@@ -1,6 +1,7 @@
 -- The room that is left once a change has taken its places.
 use Rattle.std.proofs.Common.{arith, ◌≡◌, ℕ, ◌+◌, ◌≤◌, length, ap, sym, subst}
 use Rattle.std.specs.Prelude.{vec_capacity}
+use Rattle.std.specs.VecDeque.{deque_len, deque_capacity}
 use Rattle.px_state.specs.declared.tables.Tables.{Tables}
 use Rattle.px_names.specs.InputLists.{RoomyLists}
 use Rattle.px_input_table.specs.InputTable.{RoomyInputs}
@@ -19,8 +20,8 @@ pub record StillRoomy (old new : RoomyInputs) : Type 0 where
 
 -- and the requests that are answered later
 pub record StillWaits {P : Type 0} (old new : Tables P) : Type 0 where
-  pub len : length new.waiting.items ≤ length old.waiting.items + 1
-  pub capacity : vec_capacity new.waiting ≡ vec_capacity old.waiting
+  pub len : deque_len new.waiting ≤ deque_len old.waiting + 1
+  pub capacity : deque_capacity new.waiting ≡ deque_capacity old.waiting
 
 -- and the messages that wait while their inputs move
 pub record StillDelays {P : Type 0} (old new : Tables P) : Type 0 where
@@ -46,7 +47,7 @@ same_roomy old new e = record {
 }
 
 pub same_waits : {P : Type 0} (old new : Tables P) → new.waiting ≡ old.waiting → StillWaits old new
-same_waits old new e = record { len = omega (arith, ap (λ v. length v.items) e); capacity = ap (λ v. vec_capacity v) e }
+same_waits old new e = record { len = omega (arith, ap (λ v. deque_len v) e); capacity = ap (λ v. deque_capacity v) e }
 
 pub room_left : {P : Type 0} (n : ℕ) (old new : Tables P) → StillRoomy old.inputs new.inputs → StillListed old.lists new.lists → StillWaits old new → StillDelays old new → HavePlaces n new.posted.items → HasRoom (n + 1) old → HasRoom n new
 room_left n old new still listed waits delays posted had = record {

@@ -54,6 +54,6 @@ pub record HasRoom {P : Type 0} (n : ℕ) (t : Tables P) : Type 0 where
   pub places : length t.inputs.items + n ≤ t.inputs.places
   pub streams : n ≤ t.inputs.streams
   pub lists : length t.lists.items + n ≤ t.lists.places
-  pub waiting : length t.waiting.items + n ≤ vec_capacity t.waiting
+  pub waiting : deque_len t.waiting + n ≤ deque_capacity t.waiting
   pub delayed : length t.delayed.items + n ≤ vec_capacity t.delayed
   pub posted : HavePlaces n t.posted.items

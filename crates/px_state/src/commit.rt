@@ -241,7 +241,7 @@ fn ask<P>(tables: &mut Tables<P>, w: Waiting)
     ensures state { state_of tables.new ≡ changed (state_of tables.old) (Asked w) }
     ensures room { (n : ℕ) → HasRoom (n + 1) tables.old → HasRoom n tables.new }
 {
-    tables.waiting.push_reserved(w);
+    tables.waiting.push_back_reserved(w);
 }
 
 // Removes an answered request from those that wait.

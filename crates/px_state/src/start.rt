@@ -143,7 +143,7 @@ pub fn new_tables<P: Drop>(
         connections: Vec::new(alloc),
         inputs: InputTable::new(alloc),
         lists: InputLists::new(alloc),
-        waiting: Vec::new(alloc),
+        waiting: VecDeque::new(alloc),
         posted,
         delayed: Vec::new(alloc),
         groups,

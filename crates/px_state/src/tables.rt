@@ -22,7 +22,7 @@ pub struct Tables<P> {
     /// The property lists of the inputs.
     pub lists: InputLists,
     /// The requests that are answered later, in the order of the requests.
-    pub waiting: Vec<Waiting>,
+    pub waiting: VecDeque<Waiting>,
     /// The messages queued for each sink, in order.
     pub posted: Vec<VecDeque<Msg<P>>>,
     /// The messages held while their inputs move, in order.

@@ -1,4 +1,4 @@
-use Rattle.std.proofs.Common.{arith, ◌∷◌, [], length-append}
+use Rattle.std.proofs.Common.{arith}
 use Rattle.px_state.proofs.Waiting.{fewer_places}
 use Rattle.px_state.proofs.commit.ask.Goals as goal
 
@@ -8,7 +8,7 @@ returns-clause-room g c = λ n had.
       places = omega (arith, had.places);
       streams = omega (arith, had.streams);
       lists = omega (arith, had.lists);
-      waiting = omega (arith, had.waiting, c.push_reserved.ensures.capacity, length-append c.args.tables.now.waiting.items (c.args.w ∷ []));
+      waiting = omega (arith, had.waiting, c.push_back_reserved.ensures.capacity, c.push_back_reserved.ensures.len);
       delayed = omega (arith, had.delayed);
       posted = fewer_places n c.args.tables.now.posted.items had.posted;
     }

@@ -1,5 +1,6 @@
 use Rattle.std.proofs.Common.{arith, ◌∙◌, ap, length}
 use Rattle.std.specs.Prelude.{vec_capacity}
+use Rattle.std.specs.VecDeque.{deque_len, deque_capacity}
 use Rattle.px_input_table.specs.InputTable.{RoomyInputs}
 use Rattle.px_state.proofs.Waiting.{fewer_places}
 use Rattle.px_state.proofs.Rooms.{less_room, same_listed, room_left}
@@ -18,8 +19,8 @@ returns-in-Settled-clause-room g c = λ n had.
     })
     (same_listed c.args.tables.now.lists c.post.new.tables.lists c.post.ensures.lists)
     (record {
-      len = omega (arith, ap (λ v. length v.items) c.post.ensures.waiting, c.remove_input.ensures.len);
-      capacity = ap (λ v. vec_capacity v) c.post.ensures.waiting ∙ c.remove_input.ensures.capacity;
+      len = omega (arith, ap (λ v. deque_len v) c.post.ensures.waiting, c.remove_input.ensures.len);
+      capacity = ap (λ v. deque_capacity v) c.post.ensures.waiting ∙ c.remove_input.ensures.capacity;
     })
     (record {
       len = omega (arith, ap (λ v. length v.items) c.post.ensures.delayed, c.remove_input-in-Settled.ensures.len);

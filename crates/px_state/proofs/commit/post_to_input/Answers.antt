@@ -1,5 +1,5 @@
 use Rattle.std.proofs.Common.{arith, ◌∙◌, ap, sym, subst, length}
-use Rattle.std.specs.Prelude.{vec_capacity}
+use Rattle.std.specs.VecDeque.{deque_len, deque_capacity}
 use Rattle.px_names.specs.InputLists.{RoomyLists}
 use Rattle.px_input_table.specs.InputTable.{RoomyInputs}
 use Rattle.px_state.specs.Tables.{HavePlaces}
@@ -30,7 +30,7 @@ returns-in-Moving-clause-room g c = λ n had.
       places = omega (arith, ap (λ (t : RoomyInputs). length t.items) late.inputs, ap (λ (t : RoomyInputs). t.places) late.inputs, had.places, c.note-in-Moving.ensures.len, c.note-in-Moving.ensures.places);
       streams = omega (arith, ap (λ (t : RoomyInputs). t.streams) late.inputs, had.streams, c.note-in-Moving.ensures.streams);
       lists = omega (arith, ap (λ (t : RoomyLists). length t.items) late.lists, ap (λ (t : RoomyLists). t.places) late.lists, had.lists);
-      waiting = omega (arith, ap (λ v. length v.items) late.waiting, ap (λ v. vec_capacity v) late.waiting, had.waiting);
+      waiting = omega (arith, ap (λ v. deque_len v) late.waiting, ap (λ v. deque_capacity v) late.waiting, had.waiting);
       delayed = omega (arith, late.len, late.capacity, had.delayed);
       posted = subst (λ q. HavePlaces n q.items) (sym late.posted) (fewer_places n c.args.tables.now.posted.items had.posted);
     }
