@@ -265,7 +265,7 @@ pub fn input_info_list(
     ensures value { IfOk result (λ infos. infos.items ≡ input_info_list groups.now lists.now.items inputs.now) }
     ensures writable { IfOk result (λ infos. All IsInputInfo infos.items) }
 {
-    let mut infos = Vec::new(alloc);
+    let mut infos = Vec::with_capacity(alloc, inputs.len())?;
     for x in inputs {
         add_input(alloc, &mut infos, x, groups, lists)?;
     }
