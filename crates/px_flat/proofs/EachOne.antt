@@ -1,5 +1,5 @@
 -- A loop that changes each member.
-use Rattle.std.proofs.Common.{◌≡◌, ℕ, zero, suc, ◌+◌, ◌<◌, ◌≤◌, List, [], ◌∷◌, ◌++◌, map, length, take, drop, get_or, ap, sym, ◌∙◌, arith}
+use Rattle.std.proofs.Common.{◌≡◌, ℕ, zero, suc, ◌+◌, ◌<◌, ◌≤◌, List, [], ◌∷◌, ◌++◌, map, length, take, drop, get_or, ap, sym, subst, ◌∙◌, arith}
 use Rattle.std.specs.Prelude.{slice_set}
 use Rattle.std.specs.List.{AllByRecursion}
 use Rattle.std.proofs.lemmas.List.{take_more, take_more_set, drop-set-lt, drop-drop, get_or-drop, take_all, map-append}
@@ -39,3 +39,9 @@ pub next_is : (P : Member → Type 0) (xs : List Member) (i : ℕ) (d : Member) 
 next_is P [] i d l h = absurd (omega arith)
 next_is P (x ∷ xs) zero d l h = h.0
 next_is P (x ∷ xs) (suc i) d l h = next_is P xs i d (omega (arith, l)) h.1
+
+-- what held of each member before the loop holds of the next one
+pub next_was : (P : Member → Type 0) (f : Member → Member) (old now : List Member) (i : ℕ) (d : Member) → Done f old now i → i < length now
+    → length now ≡ length old → AllByRecursion P old → P (get_or now i d)
+next_was P f old now i d done l n all =
+    subst P (same_next old now i d done.rest) (next_is P old i d (omega (arith, l, n)) all)

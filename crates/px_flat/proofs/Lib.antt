@@ -4,4 +4,5 @@ pub mod EachOne
 pub mod Preserved
 pub mod Volumes
 pub mod TrueTo
+pub mod Same
 pub mod Inputs

@@ -1,5 +1,5 @@
 //! The arithmetic of per-channel numbers. No call takes memory.
-ghost use Rattle.std.specs.Prelude.{◌≡◌, ◌<◌, ◌≤◌, length, replicate, max, ◌==◌, if◌then◌else◌};
+ghost use Rattle.std.specs.Prelude.{◌≡◌, ◌<◌, ◌≤◌, length, replicate, max, ◌==◌, if◌then◌else◌, true};
 ghost use Rattle.px_vol.specs.Volume.{IsChannelVolume, norm, greatest};
 ghost use Rattle.px_flat.specs.Channels.{at, value_for, values_for, widened, products_of, raised_to, ratio_after, ratios_after};
 ghost use Rattle.px_flat.specs.Member.{SuitsChannels};
@@ -124,6 +124,23 @@ fn ratio_after(ratio: u32, volume: u32, base: u32) -> u32
     } else {
         divide(volume, base)
     }
+}
+
+/// Whether the ratio of each volume to the value of a sink's volumes for its channel stays what it is: where `feed` has the channel that feeds
+/// each channel of the sink, the ratios after these volumes are then these ratios.
+pub fn are_after(ratios: &CVolume, volumes: &CVolume, feed: &Feed, bases: &CVolume) -> bool
+    requires volumes { length ratios.now ≡ length volumes.now }
+    requires places { length feed.now ≡ length bases.now }
+    ensures { result ≡ true → ratios_after ratios.now volumes.now (values_for feed.now bases.now (length volumes.now)) ≡ ratios.now }
+{
+    let (feed, bases) = (feed.channels(), bases.values());
+    let (ratios, volumes) = (ratios.values(), volumes.values());
+    for c in 0..ratios.len() {
+        if ratio_after(ratios[c], volumes[c], value_for(feed, bases, c)) != ratios[c] {
+            return false;
+        }
+    }
+    true
 }
 
 /// The ratio of a volume to a base, channel by channel. Unchanged where the base is 0, or where it already gives the volume.

@@ -189,11 +189,11 @@ impl Group {
         self.members.as_slice()
     }
 
-    /// A copy of the group.
+    /// A copy of the group, which can take in one more input without moving the others.
     pub fn copy(&self, alloc: Global) -> Mem<Group>
         ensures { IfOk result (λ copy. copy ≡ self.now) }
     {
-        let mut members = Vec::with_capacity(alloc, self.members.len())?;
+        let mut members = Vec::with_capacity(alloc, self.members.len().saturating_add(1))?;
         members.extend_from_slice(self.members.as_slice())?;
         Ok(Group {
             reference: self.reference,

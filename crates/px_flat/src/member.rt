@@ -4,7 +4,7 @@ ghost use Rattle.px_vol.specs.Volume.{greatest};
 ghost use Rattle.px_chmap.specs.Plan.{FeedsAll};
 ghost use Rattle.px_flat.specs.Member.{IsMember, SuitsChannels, SuitsHow, channels_of, coming_volume, coming_ratios, coming, volume_at, with_volume, with_mute, at_reference, to_reference, to_real, factor_at, factors_under};
 
-use crate::channels::{neutral, products, ratios_after, values_for, widened};
+use crate::channels::{are_after, neutral, products, ratios_after, values_for, widened};
 use px_chmap::Feed;
 use px_types::InputId;
 use px_vol::{CVolume, Factors, cube, multiply};
@@ -152,6 +152,16 @@ impl Member {
         requires { IsMember (length reference.now) self.old }
         ensures { self.new ≡ to_reference reference.now self.old }
     {
+        if !are_after(&self.ratios.reference, &self.volume, &self.feed, reference) {
+            self.match_reference(reference);
+        }
+    }
+
+    // Sets that ratio, whatever it is.
+    fn match_reference(&mut self, reference: &CVolume)
+        requires { IsMember (length reference.now) self.old }
+        ensures { self.new ≡ to_reference reference.now self.old }
+    {
         let channels = self.channels();
         let reference = values_for(&self.feed, reference, channels);
         let ratios = ratios_after(&self.ratios.reference, &self.volume, &reference);
@@ -160,6 +170,16 @@ impl Member {
 
     /// Sets its ratio to the real volume to match its volume.
     pub fn follow_real(&mut self, real: &CVolume)
+        requires { IsMember (length real.now) self.old }
+        ensures { self.new ≡ to_real real.now self.old }
+    {
+        if !are_after(&self.ratios.real, &self.volume, &self.feed, real) {
+            self.match_real(real);
+        }
+    }
+
+    // Sets that ratio, whatever it is.
+    fn match_real(&mut self, real: &CVolume)
         requires { IsMember (length real.now) self.old }
         ensures { self.new ≡ to_real real.now self.old }
     {

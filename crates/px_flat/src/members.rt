@@ -76,13 +76,15 @@ fn each_follows_real(members: &mut [Member], real: &CVolume)
     }
 }
 
-// Sets each member's ratio to the reference volume to match its volume.
-fn each_follows_reference(members: &mut [Member], reference: &CVolume)
-    requires { AllByRecursion (IsMember (length reference.now)) members.old }
-    ensures { members.new ≡ map (to_reference reference.now) members.old }
+// Sets each member's ratios to the reference volume and to the real volume to match its volume.
+fn each_follows_both(members: &mut [Member], reference: &CVolume, real: &CVolume)
+    requires reference { AllByRecursion (IsMember (length reference.now)) members.old }
+    requires real { AllByRecursion (IsMember (length real.now)) members.old }
+    ensures { members.new ≡ map (λ m. to_real real.now (to_reference reference.now m)) members.old }
 {
     for member in members.iter_mut() {
         member.follow_reference(reference);
+        member.follow_real(real);
     }
 }
 
@@ -111,9 +113,9 @@ fn each_settles(reference: &mut CVolume, members: &mut [Member])
     ensures reference { reference.new ≡ raised_over reference.old members.old }
     ensures members { members.new ≡ settled_over reference.old members.old }
 {
-    *reference = raised(reference, &real_of(reference, members));
-    each_follows_reference(members, reference);
-    each_follows(reference, members);
+    let real = real_of(reference, members);
+    *reference = raised(reference, &real);
+    each_follows_both(members, reference, &real);
 }
 
 // Sets each member's volume to what its ratio to this reference volume gives, and its ratio to the real volume to match.

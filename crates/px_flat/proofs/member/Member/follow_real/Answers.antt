@@ -1,12 +1,5 @@
-use Rattle.std.proofs.Common.{◌∙◌, ap, sym, refl, length}
-use Rattle.px_flat.specs.Channels.{value_for}
-use Rattle.px_flat.proofs.ByChannel.{length_per_channel}
+use Rattle.px_flat.proofs.Same.{real_stays}
 use Rattle.px_flat.proofs.member.Member.follow_real.Goals as goal
 
-pub ratios_after-ratios-requires-clause-bases : goal.ratios_after-ratios-requires-clause-bases
-ratios_after-ratios-requires-clause-bases c =
-    c.requires.ratios.real ∙ sym c.channels-channels.ensures.value
-    ∙ sym (ap length c.values_for-real.ensures ∙ length_per_channel (value_for c.args.self.now.feed c.args.real.now) c.channels-channels.result)
-
-pub returns : goal.returns
-returns c = rw (c.ratios_after-ratios.ensures, c.values_for-real.ensures, c.channels-channels.ensures.value) refl
+pub returns-else-not-are_after : goal.returns-else-not-are_after
+returns-else-not-are_after c = real_stays c.args.real.now c.args.self.now (c.are_after.ensures c.if-not-are_after.false)
