@@ -27,6 +27,9 @@ impl<T: Drop> From<AllocFailed<T>> for NoMemory {
 /// The most bytes that one block has, as `PA_MEMPOOL_SLOT_SIZE` in `pulsecore/memblock.c`.
 pub const BLOCK_SIZE: usize = 65_536;
 
+// The least room of a block, which is as much as the heap gives for less. So a few bytes that follow find room in it.
+const LEAST: usize = 24;
+
 /// A block of bytes (`pa_memblock`): the bytes put since it was taken, at most `BLOCK_SIZE`. Its room is taken when it is made; `fit` gives
 /// back the unused part, and `open` takes it again.
 #[derive(Debug, Drop)]
@@ -62,7 +65,7 @@ impl Block {
         ensures room { IfOk result (λ block. min bytes BLOCK_SIZE ≤ block.room) }
     {
         Ok(Block {
-            bytes: Vec::with_capacity(alloc, bytes.min(BLOCK_SIZE))?,
+            bytes: Vec::with_capacity(alloc, bytes.max(LEAST).min(BLOCK_SIZE))?,
         })
     }
 
