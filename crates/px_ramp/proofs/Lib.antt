@@ -6,5 +6,6 @@ pub mod Sharing
 pub mod Packing
 pub mod Taking
 pub mod Turned
+pub mod Unramped
 pub mod Put
 pub mod Played

@@ -61,11 +61,11 @@ ramp_ends n r j some past =
     let all : min (j - r.start) n ≡ n = omega (arith, past) in
     ap (λ (w : ℕ). value_of r.from r.to w n) all ∙ end_of r.from r.to n some
 
--- a factor that stays
-pub flat_stays : (n f j : ℕ) → value_at n (flat f) j ≡ f
-flat_stays n f j =
+-- no way to go
+stays_at : (n f w : ℕ) → value_of f f w n ≡ f
+stays_at n f w =
     let whole : f + 0 ≡ f = omega arith in
-    sym (risen f f (min (j - 0) n) n (omega arith)) ∙ ap (λ (x : ℕ). f + x / n) (none (min (j - 0) n)) ∙ ap (λ (x : ℕ). f + x) (zero-div n) ∙ whole
+    sym (risen f f w n (omega arith)) ∙ ap (λ (x : ℕ). f + x / n) (none w) ∙ ap (λ (x : ℕ). f + x) (zero-div n) ∙ whole
   where
     same : f - f ≡ 0
     same = omega arith
@@ -76,13 +76,20 @@ flat_stays n f j =
     none : (m : ℕ) → (f - f) * m + 0 ≡ 0
     none m = ap (λ (d : ℕ). d * m + 0) same ∙ nothing m
 
+pub ramp_stays : (n : ℕ) (r : Ramp) (j : ℕ) → r.from ≡ r.to → value_at n r j ≡ r.to
+ramp_stays n r j same = ap (λ (x : ℕ). value_of x r.to (min (j - r.start) n) n) same ∙ stays_at n r.to (min (j - r.start) n)
+
+-- a factor that stays
+pub flat_stays : (n f j : ℕ) → value_at n (flat f) j ≡ f
+flat_stays n f j = stays_at n f (min (j - 0) n)
+
 -- ---- turns
 
-inputs_stand : (n f : ℕ) (ramps : List InputRamps) (inputs : List Input) → AllByRecursion (StandAt n f ramps) inputs → ramped_inputs n f ramps inputs ≡ inputs
+pub inputs_stand : (n f : ℕ) (ramps : List InputRamps) (inputs : List Input) → AllByRecursion (StandAt n f ramps) inputs → ramped_inputs n f ramps inputs ≡ inputs
 inputs_stand n f ramps [] h = refl
 inputs_stand n f ramps (x ∷ inputs) h = λ i. record { index = x.index; stream = h.0 i } ∷ inputs_stand n f ramps inputs h.1 i
 
-map_same : (f g : ℕ → Frame) (a n : ℕ) → ((k : ℕ) → a ≤ k → k < a + n → f k ≡ g k) → map f (range_with_len a n) ≡ map g (range_with_len a n)
+pub map_same : (f g : ℕ → Frame) (a n : ℕ) → ((k : ℕ) → a ≤ k → k < a + n → f k ≡ g k) → map f (range_with_len a n) ≡ map g (range_with_len a n)
 map_same f g a zero same = refl
 map_same f g a (suc n) same = λ i. same a (omega arith) (omega arith) i ∷ map_same f g (a + 1) n (λ k high less. same k (omega (arith, high)) (omega (arith, less))) i
 

@@ -3,6 +3,8 @@ ghost use Rattle.std.specs.Prelude.{◌≡◌, ◌≤◌, ◌+◌, ◌-◌, ◌*
 ghost use Rattle.std.specs.List.{concat, range_with_len};
 ghost use Rattle.px_sample.specs.Format.{frame_size_of};
 ghost use Rattle.px_msg.specs.View.{sample_spec};
+ghost use Rattle.px_model.specs.Mix.{mix_of};
+ghost use Rattle.px_model.specs.Sink.{streams_of};
 ghost use Rattle.px_stream.specs.Samples.{samples};
 ghost use Rattle.px_lane.specs.Inputs.{inputs_of};
 ghost use Rattle.px_lane.specs.Mixing.{IsMixed};
@@ -128,12 +130,14 @@ impl RampBuffer {
     }
 
     /// Drops the first `gone` frames, keeps the next `below`, and mixes all after them, up to the depth, from the inputs, which stand at frame `horizon`.
+    /// `plain` has the frames after them as they are without ramps.
     pub(crate) fn remix<T: Ledger>(
         &mut self,
         gone: usize,
         below: u32,
         inputs: &[Input],
         horizon: u64,
+        plain: &[u8],
         steps: &mut Steps<T>,
     )
         requires held { (gone + below) * frame_size_of self.old.spec ≤ length self.old.bytes }
@@ -142,6 +146,7 @@ impl RampBuffer {
         requires fed { AreFed self.old.spec.channels (inputs_of inputs.now) }
         requires few { length (inputs_of inputs.now) ≤ 256 }
         requires countable { horizon ≤ 2 ^ 61 }
+        requires plain { plain.now ≡ concat (map (mix_of samples (sample_spec self.old.spec) (streams_of (inputs_of inputs.now))) (range_with_len 0 (self.old.depth - below))) }
         ensures spec { self.new.spec ≡ self.old.spec }
         ensures ramp { self.new.ramp ≡ self.old.ramp }
         ensures depth { self.new.depth ≡ self.old.depth }
@@ -160,6 +165,7 @@ impl RampBuffer {
             self.ramp,
             horizon,
             self.depth - below,
+            plain,
             &mut self.bytes,
             steps,
         );

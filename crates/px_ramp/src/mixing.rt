@@ -16,6 +16,7 @@ ghost use Rattle.px_ramp.specs.RampMix.{ramped_input, ramped_inputs, ramp_frame}
 ghost use Rattle.px_ramp.specs.Table.{AreWide};
 
 use crate::shares::add_share;
+use crate::standing::all_stand;
 use crate::table::RampTable;
 use px_kernel::Steps;
 use px_lane::Input;
@@ -168,8 +169,8 @@ fn mix_frames<T: Ledger>(
     }
 }
 
-/// Mixes `count` frames of the inputs, which stand at frame `horizon`, by their ramps, and appends them to `bytes`. `values` and `frame` are scratch for
-/// one frame. `cache` holds no frame before and after. Takes no memory.
+/// Mixes `count` frames of the inputs, which stand at frame `horizon`, by their ramps, and appends them to `bytes`. `plain` has these frames without
+/// ramps: they are copied where no ramp runs. `values` and `frame` are scratch for one frame. `cache` holds no frame before and after. Takes no memory.
 pub(crate) fn mix_into<T: Ledger>(
     cache: &mut MixCache,
     values: &mut Vec<i32>,
@@ -180,6 +181,7 @@ pub(crate) fn mix_into<T: Ledger>(
     frames: u32,
     horizon: u64,
     count: u32,
+    plain: &[u8],
     bytes: &mut Vec<u8>,
     steps: &mut Steps<T>,
 )
@@ -198,6 +200,7 @@ pub(crate) fn mix_into<T: Ledger>(
     requires low { count ≤ 65536 }
     requires countable { horizon ≤ 2 ^ 61 }
     requires room { length bytes.old.items + count * frame_size_of sink.now ≤ vec_capacity bytes.old }
+    requires plain { plain.now ≡ concat (map (mix_of samples (sample_spec sink.now) (streams_of (inputs_of inputs.now))) (range_with_len 0 count)) }
     ensures size { length values.new.items ≡ length values.old.items }
     ensures words { All (FitsSigned w32) values.new.items }
     ensures none { cache.new.frames ≡ 0 }
@@ -207,6 +210,10 @@ pub(crate) fn mix_into<T: Ledger>(
     ensures capacity { vec_capacity bytes.old ≤ vec_capacity bytes.new }
     ensures bytes { bytes.new.items ≡ bytes.old.items ++ concat (map (ramp_frame samples frames horizon table.now.ramps (sample_spec sink.now) (inputs_of inputs.now)) (range_with_len 0 count)) }
 {
+    if all_stand(table, inputs, frames, horizon) {
+        append(bytes, plain);
+        return;
+    }
     mix_frames(
         cache,
         values.as_mut_slice(),

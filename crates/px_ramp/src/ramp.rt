@@ -1,5 +1,5 @@
 // A ramp of one factor.
-ghost use Rattle.std.specs.Prelude.{◌≡◌, ◌≤◌, ◌<◌, ◌+◌, ◌-◌, ◌*◌, ◌/◌, min, pos, ◌+ℤ◌, ◌-ℤ◌, ◌*ℤ◌, unsigned_abs};
+ghost use Rattle.std.specs.Prelude.{◌≡◌, ◌≤◌, ◌<◌, ◌+◌, ◌-◌, ◌*◌, ◌/◌, ℕ, IsTrue, min, pos, ◌+ℤ◌, ◌-ℤ◌, ◌*ℤ◌, unsigned_abs};
 ghost use Rattle.std.specs.Int.{int_div_euclid};
 ghost use Rattle.px_ramp.specs.Ramp.{value_at, flat, aimed};
 
@@ -59,6 +59,15 @@ impl Ramp {
         ensures { result ≡ value_at frames self.now at }
     {
         between(self.from, self.to, way(self.start, at, frames), frames)
+    }
+
+    /// Whether it is at `factor` from frame `at` on: it aims at it, and has no way to go, or has gone all of it.
+    pub(crate) fn stands(&self, frames: u32, at: u64, factor: u32) -> bool
+        requires { 1 ≤ frames }
+        ensures { IsTrue result → (f : ℕ) → at ≤ f → value_at frames self.now f ≡ factor }
+    {
+        self.to == factor
+            && (self.from == self.to || frames as u64 <= at.saturating_sub(self.start))
     }
 
     /// The ramp with another aim from frame `at` on, starting at the value there. One that aims at it already stays what it is.

@@ -1,5 +1,5 @@
 // The ramps of an input.
-ghost use Rattle.std.specs.Prelude.{◌≡◌, ◌≤◌, ◌<◌, map, take, length};
+ghost use Rattle.std.specs.Prelude.{◌≡◌, ◌≤◌, ◌<◌, ℕ, IsTrue, map, take, length};
 ghost use Rattle.px_ramp.specs.Ramp.{flat, all_aimed};
 ghost use Rattle.px_ramp.specs.RampMix.{values_at};
 
@@ -66,6 +66,22 @@ fn read_each(ramps: &[Ramp], frames: u32, at: u64, out: &mut [u32])
     }
 }
 
+// Whether each ramp is at its factor from frame `at` on, and there are as many of both.
+fn each_stands(ramps: &[Ramp], frames: u32, at: u64, factors: &[u32]) -> bool
+    requires { 1 ≤ frames }
+    ensures { IsTrue result → (f : ℕ) → at ≤ f → values_at frames f ramps.now ≡ factors.now }
+{
+    if ramps.len() != factors.len() {
+        return false;
+    }
+    for i in 0..ramps.len() {
+        if !ramps[i].stands(frames, at, factors[i]) {
+            return false;
+        }
+    }
+    true
+}
+
 impl Ramps {
     /// Factors that stay.
     pub fn flat(factors: &Factors) -> Ramps
@@ -101,5 +117,18 @@ impl Ramps {
         let count = self.count as usize;
         read_each(&self.items[..count], frames, at, &mut values);
         Factors::new(&values[..count]).unwrap()
+    }
+
+    /// Whether they are at these factors from frame `at` on.
+    pub(crate) fn stand(&self, frames: u32, at: u64, factors: &Factors) -> bool
+        requires { 1 ≤ frames }
+        ensures { IsTrue result → (f : ℕ) → at ≤ f → values_at frames f self.now ≡ factors.now }
+    {
+        each_stands(
+            &self.items[..self.count as usize],
+            frames,
+            at,
+            factors.values(),
+        )
     }
 }

@@ -151,8 +151,9 @@ impl RampedSink {
         self.held.take_all(messages, count, at);
         self.mixer.play(frames, messages, out, blocks, steps);
         let inputs = self.mixer.inputs();
+        let plain = self.mixer.fresh(0);
         self.held
-            .remix(frames as usize, below as u32, inputs, at, steps);
+            .remix(frames as usize, below as u32, inputs, at, plain, steps);
     }
 
     /// The ramped turn whose sync failed, and each after it: all frames past the horizon are dropped, and nothing is mixed. Takes no memory.

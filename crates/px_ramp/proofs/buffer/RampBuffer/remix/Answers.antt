@@ -3,6 +3,8 @@ use Rattle.std.specs.List.{concat, range_with_len}
 use Rattle.std.proofs.Math.Nat.{add-mul}
 use Rattle.px_sample.specs.Format.{frame_size_of}
 use Rattle.px_msg.specs.View.{sample_spec}
+use Rattle.px_model.specs.Mix.{mix_of}
+use Rattle.px_model.specs.Sink.{streams_of}
 use Rattle.px_stream.specs.Samples.{samples}
 use Rattle.px_lane.specs.Inputs.{inputs_of}
 use Rattle.px_ramp.specs.RampMix.{ramp_frame}
@@ -29,6 +31,10 @@ mix_into-requires-clause-room g c =
       add-mul c.args.below (c.self.inside.depth - c.args.below) (frame_size_of c.self.inside.spec),
       ap (λ (m : ℕ). m * frame_size_of c.self.inside.spec) whole,
     )
+
+pub mix_into-requires-clause-plain : goal.mix_into-requires-clause-plain
+mix_into-requires-clause-plain g c =
+    subst (λ (v : HeldFrames). c.args.plain.now ≡ concat (map (mix_of samples (sample_spec v.spec) (streams_of (inputs_of c.args.inputs.now))) (range_with_len 0 (v.depth - c.args.below)))) (sym c.self.view_is) c.requires.plain
 
 pub returns-clause-bytes : goal.returns-clause-bytes
 returns-clause-bytes g c =

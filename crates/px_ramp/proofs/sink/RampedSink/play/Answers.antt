@@ -13,6 +13,7 @@ use Rattle.px_ramp.specs.RampMix.{ramp_turned}
 use Rattle.px_ramp.specs.Lane.{RoomyRampSink, ramped_of}
 use Rattle.px_ramp.proofs.Turned.{same_size, lane_fed, lane_few, ramped_lane}
 use Rattle.px_ramp.proofs.Played.{same_channels, still_wide, bytes_played, sink_played, full_played, held_played}
+use Rattle.px_ramp.proofs.Unramped.{plain_played}
 use Rattle.px_ramp.proofs.sink.RampedSink.play.Goals as goal
 
 pub horizon_after-at-requires : goal.horizon_after-at-requires
@@ -101,6 +102,22 @@ pub remix-requires-clause-countable : goal.remix-requires-clause-countable
 remix-requires-clause-countable g c =
     let few : c.self.inside.mixer.sink.filled ≤ 2 ^ 60 = subst (λ (s : RoomyRampSink). s.ramped.sink.filled ≤ 2 ^ 60) (sym c.self.view_is) c.requires.countable in
     omega (arith, few, c.horizon_after-at.ensures)
+
+pub fresh-plain-requires-clause-full : goal.fresh-plain-requires-clause-full
+fresh-plain-requires-clause-full g c = ap (λ (s : Sink). s.filled) c.play.ensures.value ∙ sym (ap (λ (s : Sink). s.consumed + s.depth) c.play.ensures.value)
+
+pub remix-requires-clause-plain : goal.remix-requires-clause-plain
+remix-requires-clause-plain g c =
+    let d = c.self.inside in
+    let h = c.self.invariant in
+    let sink = d.mixer.sink in
+    let messages = c.args.messages.now.messages in
+    let there : c.args.frames ≤ sink.filled - sink.consumed = subst (λ (s : RoomyRampSink). c.args.frames ≤ s.ramped.sink.filled - s.ramped.sink.consumed) (sym c.self.view_is) c.requires.there in
+    let at : c.horizon_after-at.result ≡ next_horizon sink c.args.frames = c.horizon_after-at.ensures ∙ ap (λ (n : ℕ). min sink.filled (sink.consumed + c.args.frames + n)) h.guarded in
+    let low : c.horizon_after-at.result - (c.consumed.result + c.args.frames) ≡ next_horizon sink c.args.frames - (sink.consumed + c.args.frames) = (λ i. at i - (c.consumed.ensures i + c.args.frames)) in
+    plain_played sink d.mixer.unaltered d.guard d.held h messages c.args.frames there c.take_all.new.self.spec c.take_all.new.self.depth c.take_all.ensures.spec c.take_all.ensures.depth
+    (c.horizon_after-at.result - (c.consumed.result + c.args.frames)) c.play.new.self.sink (inputs_of c.inputs-inputs.result.now) c.fresh-plain.result.now low
+    c.play.ensures.value (c.inputs-inputs.ensures ∙ ap (λ (s : Sink). s.inputs) c.play.ensures.value) c.fresh-plain.ensures
 
 pub returns-clause-ramped : goal.returns-clause-ramped
 returns-clause-ramped g c =
