@@ -1,4 +1,4 @@
-use Rattle.std.proofs.Common.{◌≡◌, map, ◌*◌, ◌+◌, ◌≤◌, ℕ, length, ◌∙◌, arith, sym, ap, subst}
+use Rattle.std.proofs.Common.{map, ◌*◌, ◌+◌, ℕ, ◌∙◌, sym, ap}
 use Rattle.std.specs.List.{concat, range_with_len}
 use Rattle.px_sample.specs.declared.format.Format.{Format}
 use Rattle.px_sample.specs.Format.{size_of}
