@@ -1,4 +1,5 @@
 pub mod Named
 pub mod Sayable
 mod Added
+mod Halved
 pub mod Removed

@@ -1,10 +1,12 @@
 -- The infos of sinks and of sink inputs (PulseAudio: `sink_fill_tagstruct`, `sink_input_fill_tagstruct`, `command_get_info` and
 -- `command_get_info_list` of pulsecore/protocol-native.c).
-use Rattle.std.specs.Prelude.{ℕ, ◌≤◌, cond, List, [], ◌∷◌, flat_map, slice_get, Option, None, Some, Ok, IsTrue}
+use Rattle.std.specs.Prelude.{⊤, ℕ, ◌+◌, ◌≤◌, cond, List, [], ◌∷◌, flat_map, slice_get, Option, None, Some, Ok, IsTrue}
 use Rattle.px_types.specs.declared.error_code.ErrorCode.TheVariants.{Invalid, NoEntity}
 use Rattle.px_tag.specs.Item.{IsText, is_text}
 use Rattle.px_tag.specs.PropList.{Property}
+use Rattle.px_types.specs.declared.ids.InputId.{InputId}
 use Rattle.px_flat.specs.declared.member.Member.{Member}
+use Rattle.px_flat.specs.Member.{is_input}
 use Rattle.px_flat.specs.FlatVolume.{FlatGroup, member_of}
 use Rattle.px_names.specs.declared.input_lists.InputList.{InputList}
 use Rattle.px_names.specs.InputLists.{list_of}
@@ -70,6 +72,16 @@ sink_infos sinks groups version tag = Ok (replied (sinks_reply version tag (sink
 abbrev pub member_with : Option FlatGroup → Input → Option Member
 member_with None x = None
 member_with (Some group) x = member_of group.members x.index
+
+-- the indices of members rise: each is at least `least`, and above those before it
+abbrev pub RisesFrom : ℕ → List Member → Type 0
+RisesFrom least [] = ⊤
+RisesFrom least (m ∷ members) = (least ≤ m.input.0) × RisesFrom (m.input.0 + 1) members
+
+-- the first member, where it has this index
+abbrev pub first_of : InputId → List Member → Option Member
+first_of input [] = None
+first_of input (m ∷ members) = cond (is_input input m) (Some m) None
 
 -- a moving input is on the sink that it comes from
 abbrev pub member_on : List FlatGroup → Input → Option Member

@@ -1,10 +1,11 @@
 //! The infos of sinks and of sink inputs (PulseAudio: `sink_fill_tagstruct`, `sink_input_fill_tagstruct`, `command_get_info`
 //! and `command_get_info_list` of `pulsecore/protocol-native.c`).
 
-ghost use Rattle.std.specs.Prelude.{◌≡◌, ◌≤◌, ◌++◌, ◌∷◌, [], List, All, IfOk, IfSome, OnOk, Ok};
+ghost use Rattle.std.specs.Prelude.{◌≡◌, ℕ, ◌<◌, ◌≤◌, ◌++◌, ◌∷◌, [], List, length, drop, slice_index_or, All, IsTrue, IfOk, IfSome, OnOk, Ok};
 ghost use Rattle.std.specs.Option.{option_map};
 ghost use Rattle.px_tag.specs.Item.{IsText};
-ghost use Rattle.px_flat.specs.FlatVolume.{member_of};
+ghost use Rattle.px_flat.specs.FlatVolume.{FlatGroup, member_of};
+ghost use Rattle.px_flat.specs.declared.member.Member.{Member as DeclaredMember};
 ghost use Rattle.px_names.specs.InputLists.{list_of};
 ghost use Rattle.px_reply.specs.Front.{reply_to};
 ghost use Rattle.px_reply.specs.Info.{with_sink, with_input};
@@ -15,7 +16,7 @@ ghost use Rattle.px_outcome.specs.Outcome.{replied};
 ghost use Rattle.px_outcome.specs.Handled.{HandledAs};
 ghost use Rattle.px_outcome.specs.Target.{IsTarget, IsNamed};
 ghost use Rattle.px_ctl_info.specs.Properties.{STREAM_NAME, text_under};
-ghost use Rattle.px_ctl_info.specs.Infos.{IsSinkInfo, IsInputInfo, sink_of, group_on, sink_info, sink_info_list, sink_infos, member_on, input_of, input_info, input_info_list, input_infos};
+ghost use Rattle.px_ctl_info.specs.Infos.{IsSinkInfo, IsInputInfo, sink_of, group_on, sink_info, sink_info_list, sink_infos, RisesFrom, first_of, member_on, input_of, input_info, input_info_list, input_infos};
 
 use crate::properties::text_under;
 use px_flat::{Group, Member};
@@ -131,20 +132,73 @@ pub fn sink_infos<M: Drop, G: Drop>(
 
 // ---- sink inputs
 
-// The member of a group with an index.
-fn member_in(members: &[Member], input: InputId) -> Option<&Member>
-    ensures { option_map (λ m. m.now) result ≡ member_of members.now input }
+// Whether the indices of these members rise, as they do until an input moves.
+fn rise(members: &[Member]) -> bool
+    ensures { IsTrue result → RisesFrom 0 members.now }
 {
-    members.iter().find(|m| m.input.0 == input.0)
+    let mut least = 0;
+    for m in members {
+        let index = m.input.0 as usize;
+        if index < least {
+            return false;
+        }
+        least = index + 1;
+    }
+    true
 }
 
-// An input as a member of its sink's group.
-fn member_on<'a>(groups: &'a [Group], x: &Input) -> Option<&'a Member>
+// Whether the indices of each group's members rise.
+fn all_rise(groups: &[Group]) -> bool
+    ensures { IsTrue result → All (λ g. RisesFrom 0 (FlatGroup.members g)) groups.now }
+{
+    for group in groups {
+        if !rise(group.members()) {
+            return false;
+        }
+    }
+    true
+}
+
+// The number of members with an index below `input`, by halves.
+fn lower(members: &[Member], input: InputId) -> usize
+    requires { RisesFrom 0 members.now }
+    ensures below { (k : ℕ) (d : DeclaredMember) → k < result → (DeclaredMember.input (slice_index_or members.now k d)).0 < input.0 }
+    ensures few { result ≤ length members.now }
+    ensures end { (d : DeclaredMember) → result < length members.now → input.0 ≤ (DeclaredMember.input (slice_index_or members.now result d)).0 }
+{
+    members.partition_point(|m| m.input.0 < input.0)
+}
+
+// The member at `place`, where it has this index.
+fn member_at(members: &[Member], place: usize, input: InputId) -> Option<&Member>
+    ensures { option_map (λ m. m.now) result ≡ first_of input (drop place members.now) }
+{
+    match members.get(place) {
+        Some(m) if m.input.0 == input.0 => Some(m),
+        _ => None,
+    }
+}
+
+// The member with an index: by halves, where the indices of the members are known to rise.
+fn member_in(members: &[Member], rising: bool, input: InputId) -> Option<&Member>
+    requires { IsTrue rising → RisesFrom 0 members.now }
+    ensures { option_map (λ m. m.now) result ≡ member_of members.now input }
+{
+    if !rising {
+        return members.iter().find(|m| m.input.0 == input.0);
+    }
+    let place = lower(members, input);
+    member_at(members, place, input)
+}
+
+// An input as a member of its sink's group, where the indices of each group's members are known to rise, or not.
+fn member_on<'a>(groups: &'a [Group], rising: bool, x: &Input) -> Option<&'a Member>
+    requires { IsTrue rising → All (λ g. RisesFrom 0 (FlatGroup.members g)) groups.now }
     ensures { option_map (λ m. m.now) result ≡ member_on groups.now x.now }
 {
     match groups.get(usize::from(x.sink.0)) {
         None => None,
-        Some(group) => member_in(group.members(), x.index),
+        Some(group) => member_in(group.members(), rising, x.index),
     }
 }
 
@@ -219,7 +273,7 @@ pub fn input_info<M: Drop, G: Drop>(
     ensures { HandledAs result (input_info input groups.now lists.now.items tag) }
 {
     let x = present(input, ErrorCode::NoEntity)?;
-    let Some(m) = member_on(groups, &x) else {
+    let Some(m) = member_on(groups, false, &x) else {
         return Err(Refusal::Code(ErrorCode::NoEntity));
     };
     input_reply(alloc, &x, m, lists, tag)
@@ -239,16 +293,18 @@ fn add_input(
     infos: &mut Vec<InputInfo>,
     x: &Input,
     groups: &[Group],
+    rising: bool,
     lists: &InputLists,
 ) -> Mem<()>
-    requires { x.now.spec.channels ≤ 32 }
+    requires channels { x.now.spec.channels ≤ 32 }
+    requires rising { IsTrue rising → All (λ g. RisesFrom 0 (FlatGroup.members g)) groups.now }
     ensures value { OnOk result ((more : List Input) → infos.new.items ++ input_info_list groups.now lists.now.items more ≡ infos.old.items ++ input_info_list groups.now lists.now.items (x.now ∷ more)) }
     ensures writable { OnOk result (All IsInputInfo infos.old.items → All IsInputInfo infos.new.items) }
 {
     if !goes_on(x) {
         return Ok(());
     }
-    if let Some(m) = member_on(groups, x) {
+    if let Some(m) = member_on(groups, rising, x) {
         infos.push(input_info_of(alloc, x, m, lists)?)?;
     }
     Ok(())
@@ -265,9 +321,10 @@ pub fn input_info_list(
     ensures value { IfOk result (λ infos. infos.items ≡ input_info_list groups.now lists.now.items inputs.now) }
     ensures writable { IfOk result (λ infos. All IsInputInfo infos.items) }
 {
+    let rising = all_rise(groups);
     let mut infos = Vec::with_capacity(alloc, inputs.len())?;
     for x in inputs {
-        add_input(alloc, &mut infos, x, groups, lists)?;
+        add_input(alloc, &mut infos, x, groups, rising, lists)?;
     }
     Ok(infos)
 }

@@ -4,8 +4,8 @@ use Rattle.px_ctl_info.specs.Infos.{input_info_list}
 use Rattle.px_ctl_info.proofs.Added.{one_added}
 use Rattle.px_ctl_info.proofs.infos.input_info_list.Goals as goal
 
-pub add_input-requires : goal.add_input-requires
-add_input-requires c = subst (λ x. (Input.spec x).channels ≤ 32) (sym c.x-item.is) (c.requires c.loop-x.x-index c.x-item.result c.loop-x-test.true)
+pub add_input-requires-clause-channels : goal.add_input-requires-clause-channels
+add_input-requires-clause-channels c = subst (λ x. (Input.spec x).channels ≤ 32) (sym c.x-item.is) (c.requires c.loop-x.x-index c.x-item.result c.loop-x-test.true)
 
 pub loop-x-preserved : goal.loop-x-preserved
 loop-x-preserved c = (
