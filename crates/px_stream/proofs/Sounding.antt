@@ -1,18 +1,21 @@
 -- What sounds as before.
-use Rattle.std.proofs.Common.{◌≡◌, ℕ, suc, ◌<◌, List, [], ◌∷◌, length, refl, ap, sym, ◌∙◌, Bool, true, false, Option, None, cond, arith}
-use Rattle.std.specs.Prelude.{ℤ, pos, ◌||◌, ◌==◌}
-use Rattle.std.proofs.lemmas.Bool.{false≢true}
+use Rattle.std.proofs.Common.{◌≡◌, ℕ, suc, ◌+◌, ◌<◌, ◌≤◌, ◌⊎◌, List, [], ◌∷◌, length, drop, length-drop, min, refl, ap, sym, ◌∙◌, Bool, true, false, Option, None, cond, arith}
+use Rattle.std.specs.Prelude.{ℤ, pos, ◌||◌, ◌&&◌, ◌==◌}
+use Rattle.std.proofs.lemmas.Int.{ints}
+use Rattle.std.proofs.lemmas.Bool.{false≢true, cases_lt}
 use Rattle.std.proofs.lemmas.Bool.Decides.{nat_tests}
 use Rattle.px_model.specs.Frame.{Frame, frame_size, frames_of}
-use Rattle.px_model.specs.Held.{place}
-use Rattle.px_model.specs.Queue.{is_short}
+use Rattle.px_model.specs.Held.{place, written_over}
+use Rattle.px_model.specs.Index.{above}
+use Rattle.px_model.specs.Queue.{Queue, is_short}
 use Rattle.px_model.specs.Stream.{Stream}
 use Rattle.px_model.specs.Control.{flushed, triggered, prebuffered, with_attr}
 use Rattle.px_model.specs.Going.{ahead_of}
 use Rattle.px_model.specs.Message.{StreamMessage}
 use Rattle.px_model.specs.Applied.{applied, write_outcome}
-use Rattle.px_model.specs.Write.{outcome_of, seek_of, target_of}
-use Rattle.px_queue.specs.Heard.{unaltered_by}
+use Rattle.px_model.specs.Write.{Outcome, stored, overflow, outside, outcome_of, queue_with, seek_of, target_of}
+use Rattle.px_model.proofs.Overlay.{overlay_past}
+use Rattle.px_queue.specs.Heard.{heard_of, is_other, unaltered_by}
 use Rattle.px_queue.proofs.Hearing.{heard_before}
 use Rattle.px_queue.proofs.Storing.{length_frames}
 use Rattle.px_stream.specs.Heard.{SoundsSame, unaltered_of, unaltered_unless}
@@ -124,3 +127,44 @@ module _ (s : Stream) (seek : ℕ) (offset : ℤ) (frames : ℕ) (n : ℕ) where
   unwritten_is shift ahead limit m far near bound e bytes =
       e (frames_of (frame_size s.spec) frames bytes) (length_frames (frame_size s.spec) frames bytes)
       ∙ (λ i. unaltered_by (outcome_of s.queue (bound i) (target_of s.queue (seek_of seek) (far i)) (sym (length_frames (frame_size s.spec) frames bytes) i) (near i)) s.queue (target_of s.queue (seek_of seek) (far i)) (frames_of (frame_size s.spec) frames bytes) n)
+
+-- ---- after the frames of a write
+
+-- a queue that is short before or after it, and not both times, holds
+heard_unless_short : (after before : Bool) (a b : Option Frame) (u first : ℕ) → u ≡ cond (is_other after before) 0 first → (u ≡ 0 → after ≡ false × before ≡ false)
+    → (u ≡ first → a ≡ b) → cond after None a ≡ cond before None b
+heard_unless_short true true a b u first e free same = refl
+heard_unless_short true false a b u first e free same = absurd (false≢true (sym (free e).0))
+heard_unless_short false true a b u first e free same = absurd (false≢true (sym (free e).1))
+heard_unless_short false false a b u first e free same = same e
+
+-- what comes after the frames
+module _ (q : Queue) (p : ℤ) (frames : List Frame) (n u k : ℕ) (more : u + length frames ≤ k) (less : k < n) where
+  past : u ≡ min (above p q.read) n → place (written_over q.read p frames q.held) k ≡ place q.held k
+  past e = overlay_past (above p q.read) (drop (above q.read p) frames) q.held k (omega (arith, ints, e, more, less, length-drop (above q.read p) frames))
+
+  heard_past : (outcome : Outcome) → u ≡ unaltered_by outcome q p frames n → (u ≡ 0 → q.hold ≡ false) → heard_of (queue_with outcome q p frames) k ≡ heard_of q k
+  heard_past outside e free = refl
+  heard_past overflow e free =
+      heard_unless_short (is_short (queue_with overflow q p frames)) (is_short q) (place q.held k) (place q.held k) u n e (λ none. (waits _ none, waits _ none)) (λ same. refl)
+    where
+      waits : (b : Bool) → u ≡ 0 → (q.hold && b) ≡ false
+      waits b none = ap (λ (h : Bool). h && b) (free none)
+  heard_past stored e free =
+      heard_unless_short (is_short (queue_with stored q p frames)) (is_short q) (place (written_over q.read p frames q.held) k) (place q.held k) u (min (above p q.read) n) e
+      (λ none. (waits _ none, waits _ none)) past
+    where
+      waits : (b : Bool) → u ≡ 0 → (q.hold && b) ≡ false
+      waits b none = ap (λ (h : Bool). h && b) (free none)
+
+-- where the stream resumes after a write
+pub written_resumes : (s : Stream) (seek : ℕ) (offset : ℤ) (frames : ℕ) (bytes : List ℕ) (n u k : ℕ) → u ≡ unaltered_of n (StreamMessage.write seek offset frames bytes) s
+    → (u ≡ 0 → Queue.hold s.queue ≡ false) → u + frames ≤ k → k < n → SoundsSame k s (applied n (StreamMessage.write seek offset frames bytes) s)
+written_resumes s seek offset frames bytes n u k e free more less = record {
+  spec = refl;
+  feed = refl;
+  factors = refl;
+  heard = ap (λ (o : Option Frame). cond s.corked None o)
+      (heard_past s.queue (target_of s.queue (seek_of seek) offset) (frames_of (frame_size s.spec) frames bytes) n u k (omega (arith, more, length_frames (frame_size s.spec) frames bytes)) less
+      (write_outcome s seek offset frames bytes n) e free);
+}

@@ -1,8 +1,9 @@
 // How much of a stream sounds as before once a message is applied.
-ghost use Rattle.std.specs.Prelude.{◌≡◌, ◌≤◌, ℕ, List};
+ghost use Rattle.std.specs.Prelude.{◌≡◌, ◌≤◌, ◌<◌, ℕ, ℤ, List};
+ghost use Rattle.px_model.specs.Applied.{applied};
 ghost use Rattle.px_model.specs.Message.{StreamMessage};
 ghost use Rattle.px_stream.specs.Messages.{message_of, Suits};
-ghost use Rattle.px_stream.specs.Heard.{none_heard, none_heard_after, unaltered_of, unaltered_unless};
+ghost use Rattle.px_stream.specs.Heard.{SoundsSame, none_heard, none_heard_after, unaltered_of, unaltered_unless};
 
 use crate::StreamMsg;
 use crate::state::StreamState;
@@ -60,5 +61,30 @@ impl StreamState {
         let ahead = self.ahead_index(mixed);
         self.queue
             .unaltered(seek, offset, frames, ahead, self.maxlength as i64, mixed)
+    }
+
+    /// As `Stream::resumed`.
+    pub(crate) fn resumed(&self, message: &StreamMsg, unaltered: u64, mixed: u64) -> u64
+        requires { unaltered ≡ unaltered_of mixed (message_of message.now) self.now.stream }
+        ensures inside { result ≤ mixed }
+        ensures sounds { (k : ℕ) → result ≤ k → k < mixed → SoundsSame k self.now.stream (applied mixed (message_of message.now) self.now.stream) }
+    {
+        match message {
+            StreamMsg::Write { frames, .. } => self.resumed_after(unaltered, *frames, mixed),
+            _ => mixed,
+        }
+    }
+
+    // For a write of `frames` frames. Where none is unaltered they begin at the read index or before it, unless the write changes whether the queue
+    // waits for frames, and then it does so before or after it.
+    fn resumed_after(&self, unaltered: u64, frames: u32, mixed: u64) -> u64
+        ensures inside { result ≤ mixed }
+        ensures sounds { (seek : ℕ) (offset : ℤ) (bytes : List ℕ) (k : ℕ) → unaltered ≡ unaltered_of mixed (StreamMessage.write seek offset frames bytes) self.now.stream
+            → result ≤ k → k < mixed → SoundsSame k self.now.stream (applied mixed (StreamMessage.write seek offset frames bytes) self.now.stream) }
+    {
+        if unaltered >= mixed || unaltered == 0 && self.queue.holds() {
+            return mixed;
+        }
+        unaltered + (mixed - unaltered).min(frames as u64)
     }
 }

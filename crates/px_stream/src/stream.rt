@@ -9,7 +9,7 @@ ghost use Rattle.px_model.specs.Frame.{SampleSpec};
 ghost use Rattle.px_model.specs.Going.{after, ahead_of};
 ghost use Rattle.px_model.specs.Orderly.{IsNewStream};
 ghost use Rattle.px_model.specs.Turn.{has_ended, has_started, has_run_out, missing_of, request_of};
-ghost use Rattle.px_stream.specs.Heard.{heard_at, unaltered_of};
+ghost use Rattle.px_stream.specs.Heard.{SoundsSame, heard_at, unaltered_of};
 ghost use Rattle.px_stream.specs.HeldStream.{IsMixable};
 ghost use Rattle.px_stream.specs.Messages.{message_of, Suits, blocks_with, room_for, answer_for};
 ghost use Rattle.px_stream.specs.Plain.{plain_of};
@@ -93,6 +93,16 @@ impl Stream {
         ensures { result ≡ unaltered_of mixed (message_of message.now) self.now.stream }
     {
         self.state.unaltered(message, mixed)
+    }
+
+    /// From which of the next `mixed` frames on all sound as before once a message is applied that leaves the first `unaltered` of them as they are:
+    /// after a write from the next one after its frames on; else from none. Takes no memory.
+    pub fn resumed(&self, message: &StreamMsg, unaltered: u64, mixed: u64) -> u64
+        requires { unaltered ≡ unaltered_of mixed (message_of message.now) self.now.stream }
+        ensures inside { result ≤ mixed }
+        ensures sounds { (k : ℕ) → result ≤ k → k < mixed → SoundsSame k self.now.stream (applied mixed (message_of message.now) self.now.stream) }
+    {
+        self.state.resumed(message, unaltered, mixed)
     }
 
     /// Moves `frames` frames of its sink forward, and answers which notices are due. Blocks that fall out of use go back to their source. Takes no
