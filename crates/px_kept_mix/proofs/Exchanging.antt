@@ -28,10 +28,10 @@ pub small : (sink : Spec) (inputs : List Input) (kept : KeptSums) → IsKept sin
 small sink inputs kept h few c k fed less =
     fewer (length inputs) 256 (kept_at kept c k) few (follows.bounded samples (sample_spec sink) kept.frames inputs (kept_at kept) h.sums c k (omega (arith, fed, h.channels)) less)
 
-none_little : (n : ℕ) → IsSumOf n (pos 0)
+pub none_little : (n : ℕ) → IsSumOf n (pos 0)
 none_little n = record { low = omega (arith, ints); high = omega (arith, ints) }
 
-there_little : (sink : Spec) (s : Option Stream) (from to c k : ℕ) → AreLittleThere sink s from to → c < sink.channels → from ≤ k → k < to → IsSumOf 1 (share_there samples (sample_spec sink) s c k)
+pub there_little : (sink : Spec) (s : Option Stream) (from to c k : ℕ) → AreLittleThere sink s from to → c < sink.channels → from ≤ k → k < to → IsSumOf 1 (share_there samples (sample_spec sink) s c k)
 there_little sink None from to c k h fed high less = none_little 1
 there_little sink (Some s) from to c k h fed high less = h c k fed high less
 
@@ -74,7 +74,7 @@ swapped sink left come from before between after channels large out into c k fed
     ∙ ap (λ (z : ℤ). z +ℤ from_on from k (share_there samples (sample_spec sink) come c k)) (out c k (omega (arith, fed, channels)) less)
 
 -- sums of as many frames
-again : (sink : Spec) (inputs : List Input) (before between after : KeptSums) → length before.runs ≡ sink.channels → IsAsLarge before between → IsAsLarge between after
+pub again : (sink : Spec) (inputs : List Input) (before between after : KeptSums) → length before.runs ≡ sink.channels → IsAsLarge before between → IsAsLarge between after
     → AreKept samples (sample_spec sink) before.frames inputs (kept_at after) → IsKept sink inputs after
 again sink inputs before between after channels first second h = record {
   channels = second.channels ∙ first.channels ∙ channels;
@@ -85,7 +85,7 @@ same_before : (sink : Spec) (s : Option Stream) (from : ℕ) (f : Stream → Str
 same_before sink None from f h = λ c k fed less. refl
 same_before sink (Some s) from f h = λ c k fed less. share_same (sample_spec sink) k s (f s) (h k less) c
 
-little_there : (sink : SampleSpec) (n i : ℕ) (xs : List Input) → AddLittle samples sink n xs → AddsLittleThere samples sink n (stream_at i xs)
+pub little_there : (sink : SampleSpec) (n i : ℕ) (xs : List Input) → AddLittle samples sink n xs → AddsLittleThere samples sink n (stream_at i xs)
 little_there sink n i [] h = tt
 little_there sink n i (x ∷ xs) h = cond_both (x.index == i) (Some x.stream) (stream_at i xs) (AddsLittleThere samples sink n) (λ here. h.0) (λ there. little_there sink n i xs h.1)
 

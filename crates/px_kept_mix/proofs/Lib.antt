@@ -1,4 +1,5 @@
 pub mod Exchanging
+pub mod Stretches
 pub mod Moving
 pub mod Putting
 pub mod Ranges

@@ -1,5 +1,5 @@
 -- What streams add to kept sums.
-use Rattle.std.specs.Prelude.{◌≡◌, ℕ, ℤ, ◌+◌, ◌-◌, ◌<◌, ◌≤◌, Bool, List, length, Option, Some, None, ⊤}
+use Rattle.std.specs.Prelude.{◌≡◌, ℕ, ℤ, ◌+◌, ◌-◌, ◌<◌, ◌≤◌, ◌⊎◌, Bool, List, length, Option, Some, None, ⊤}
 use Rattle.px_sample.specs.declared.spec.Spec.{Spec}
 use Rattle.px_msg.specs.View.{sample_spec}
 use Rattle.px_kernel.specs.Kernel.{changed}
@@ -52,6 +52,11 @@ abbrev pub SharesThere : Bool → Spec → Option Stream → ℕ → KeptSums �
 SharesThere add sink s from before after =
     (c k : ℕ) → c < length before.runs → k < before.frames → kept_at after c k ≡ changed add (kept_at before c k) (from_on from k (share_there samples (sample_spec sink) s c k))
 
+-- the same from frame `from` up to frame `to`
+abbrev pub SharesBetweenThere : Bool → Spec → Option Stream → ℕ → ℕ → KeptSums → KeptSums → Type 0
+SharesBetweenThere add sink s from to before after =
+    (c k : ℕ) → c < length before.runs → k < before.frames → kept_at after c k ≡ changed add (kept_at before c k) (between from to k (share_there samples (sample_spec sink) s c k))
+
 abbrev pub AreLittleThere : Spec → Option Stream → ℕ → ℕ → Type 0
 AreLittleThere sink None from to = ⊤
 AreLittleThere sink (Some s) from to = AreLittle sink s from to
@@ -60,6 +65,11 @@ AreLittleThere sink (Some s) from to = AreLittle sink s from to
 abbrev pub SoundsBefore : ℕ → (Stream → Stream) → Option Stream → Type 0
 SoundsBefore from f None = ⊤
 SoundsBefore from f (Some s) = (k : ℕ) → k < from → SoundsSame k s (f s)
+
+-- it leaves the sound of all of the next n frames but those from `from` up to `to`
+abbrev pub SoundsOutside : ℕ → ℕ → ℕ → (Stream → Stream) → Option Stream → Type 0
+SoundsOutside n from to f None = ⊤
+SoundsOutside n from to f (Some s) = (k : ℕ) → k < n → (k < from) ⊎ (to ≤ k) → SoundsSame k s (f s)
 
 -- the sums move `frames` frames forward
 pub record GoesBy (frames : ℕ) (before after : KeptSums) : Type 0 where

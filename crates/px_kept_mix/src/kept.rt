@@ -304,10 +304,34 @@ impl KeptMix {
         ensures little { AreLittle sink.now stream.now.stream from self.old.frames }
         ensures ticks { steps.new ≤ steps.old + 2 * (sink.now.channels * (self.old.frames - from)) }
     {
+        let to = self.frames;
+        self.change_between(sink, stream, from, to, add, steps);
+    }
+
+    /// The same from frame `from` up to frame `to`.
+    pub fn change_between<T: Ledger>(
+        &mut self,
+        sink: &Spec,
+        stream: &Stream,
+        from: u32,
+        to: u32,
+        add: bool,
+        steps: &mut Steps<T>,
+    )
+        requires channels { length self.old.runs ≡ sink.now.channels }
+        requires fed { length stream.now.stream.feed ≡ sink.now.channels }
+        requires order { from ≤ to }
+        requires inside { to ≤ self.old.frames }
+        requires room { AreSmall 258 self.old }
+        ensures large { IsAsLarge self.old self.new }
+        ensures sums { SharesBetween add sink.now stream.now.stream from to self.old self.new }
+        ensures little { AreLittle sink.now stream.now.stream from to }
+        ensures ticks { steps.new ≤ steps.old + 2 * (sink.now.channels * (to - from)) }
+    {
         change_spans(
             &mut self.cache,
             self.values.as_mut_slice(),
-            self.frames,
+            to,
             sink,
             stream,
             from,
@@ -326,7 +350,26 @@ impl KeptMix {
         ensures bytes { (inputs : List Input) → IsKept sink.now inputs self.now → out.new ≡ concat (map (mix_of samples (sample_spec sink.now) (streams_of inputs)) (range_with_len from (self.now.frames - from))) }
         ensures ticks { steps.new ≡ steps.old + sink.now.channels * (self.now.frames - from) }
     {
-        self.cache
-            .frames(from, self.frames - from, sink.format, out, steps);
+        self.pack_between(sink, from, self.frames, out, steps);
+    }
+
+    /// The same from frame `from` up to frame `to`.
+    pub fn pack_between<T: Ledger>(
+        &self,
+        sink: &Spec,
+        from: u32,
+        to: u32,
+        out: &mut [u8],
+        steps: &mut Steps<T>,
+    )
+        requires linear { IsLinear sink.now.format }
+        requires channels { length self.now.runs ≡ sink.now.channels }
+        requires order { from ≤ to }
+        requires inside { to ≤ self.now.frames }
+        requires whole { length out.old ≡ (to - from) * frame_size_of sink.now }
+        ensures bytes { (inputs : List Input) → IsKept sink.now inputs self.now → out.new ≡ concat (map (mix_of samples (sample_spec sink.now) (streams_of inputs)) (range_with_len from (to - from))) }
+        ensures ticks { steps.new ≡ steps.old + sink.now.channels * (to - from) }
+    {
+        self.cache.frames(from, to - from, sink.format, out, steps);
     }
 }

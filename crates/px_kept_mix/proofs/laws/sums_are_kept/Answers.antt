@@ -1,4 +1,5 @@
 use Rattle.px_kept_mix.proofs.Exchanging as exchanging
+use Rattle.px_kept_mix.proofs.Stretches as stretches
 use Rattle.px_kept_mix.proofs.laws.sums_are_kept.Goals as goal
 
 pub returns-clause-small : goal.returns-clause-small
@@ -12,3 +13,6 @@ returns-clause-forward c = exchanging.forward
 
 pub returns-clause-asked : goal.returns-clause-asked
 returns-clause-asked c = exchanging.asked
+
+pub returns-clause-one_more_between : goal.returns-clause-one_more_between
+returns-clause-one_more_between c = stretches.one_more_between

@@ -1,14 +1,25 @@
-use Rattle.std.proofs.Common.{◌≡◌, ◌-◌, ◌≤◌, length, ap, arith}
-use Rattle.std.proofs.Math.Nat.{mul-le-mul}
+use Rattle.std.proofs.Common.{◌≡◌, ℕ, ◌+◌, ◌-◌, ◌*◌, ◌≤◌, ◌∙◌, ap, subst, arith}
 use Rattle.px_mixcache.specs.Cache.{KeptSums}
+use Rattle.px_kept_mix.specs.Keeping.{AreLittle}
 use Rattle.px_kept_mix.proofs.Spanned.{to_the_end}
 use Rattle.px_kept_mix.proofs.kept.KeptMix.change.Goals as goal
 
-pub change_spans-requires-clause-some : goal.change_spans-requires-clause-some
-change_spans-requires-clause-some g c = omega (arith, c.self.invariant.3, c.requires.channels, ap (λ (v : KeptSums). length v.runs) c.self.view_is)
+pub change_between-requires-clause-order : goal.change_between-requires-clause-order
+change_between-requires-clause-order g c = omega (arith, c.requires.from, c.self.invariant.0, ap (λ (v : KeptSums). v.frames) c.self.view_is)
 
-pub change_spans-requires-clause-size : goal.change_spans-requires-clause-size
-change_spans-requires-clause-size g c =
-    let runs : c.args.sink.now.channels ≤ length c.self.inside.cache.runs = omega (arith, c.requires.channels, ap (λ (v : KeptSums). length v.runs) c.self.view_is) in
-    let few : c.self.inside.frames - c.args.from ≤ c.self.inside.cache.depth = omega (arith, c.self.invariant.0, c.self.invariant.1) in
-    omega (arith, c.self.invariant.4, mul-le-mul runs few)
+pub change_between-requires-clause-inside : goal.change_between-requires-clause-inside
+change_between-requires-clause-inside g c = omega (arith, c.self.invariant.0, ap (λ (v : KeptSums). v.frames) c.self.view_is)
+
+pub returns-clause-sums : goal.returns-clause-sums
+returns-clause-sums g c =
+    to_the_end c.args.add c.args.sink.now c.args.stream.now.stream c.args.from c.self.inside.frames c.args.self.now c.change_between.new.self
+    (omega (arith, c.self.invariant.0, ap (λ (v : KeptSums). v.frames) c.self.view_is)) c.change_between.ensures.sums
+
+pub returns-clause-little : goal.returns-clause-little
+returns-clause-little g c =
+    subst (λ (n : ℕ). AreLittle c.args.sink.now c.args.stream.now.stream c.args.from n) (c.self.invariant.0 ∙ ap (λ (v : KeptSums). v.frames) c.self.view_is) c.change_between.ensures.little
+
+pub returns-clause-ticks : goal.returns-clause-ticks
+returns-clause-ticks g c =
+    subst (λ (n : ℕ). c.change_between.new.steps ≤ c.args.steps.now + 2 * (c.args.sink.now.channels * (n - c.args.from)))
+    (c.self.invariant.0 ∙ ap (λ (v : KeptSums). v.frames) c.self.view_is) c.change_between.ensures.ticks
