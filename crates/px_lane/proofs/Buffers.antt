@@ -1,5 +1,5 @@
 -- Frames of a buffer's bytes.
-use Rattle.std.proofs.Common.{◌≡◌, ℕ, zero, suc, ◌+◌, ◌-◌, ◌*◌, ◌≤◌, List, [], ◌∷◌, ◌++◌, length, take, drop, refl, ap, sym, ◌∙◌, arith, drop-drop, length-drop}
+use Rattle.std.proofs.Common.{◌≡◌, ℕ, zero, suc, ◌+◌, ◌-◌, ◌*◌, ◌≤◌, List, [], ◌∷◌, ◌++◌, length, take, drop, refl, ap, sym, ◌∙◌, arith, drop-drop, length-drop, length-append}
 use Rattle.std.proofs.Math.Nat.{add-mul}
 use Rattle.std.proofs.Math.Seq.{take-add, drop-append_seam}
 use Rattle.std.proofs.lemmas.List.{take-take, drop-take, take-append-drop, take-append-le, take_all, length-take-le}
@@ -99,6 +99,44 @@ frames_renewed size k rest old new fresh is fit are =
     (ap (λ (bytes : List ℕ). frames_of size (length fresh) bytes)
     (ap (λ (n : ℕ). drop n (take (k * size) old ++ concat fresh)) (sym long) ∙ drop-append_seam (take (k * size) old) (concat fresh))
     ∙ frames_back size fresh are)
+
+length_whole : (size : ℕ) (frames : List Frame) → AreFramesOf size frames → length (concat frames) ≡ length frames * size
+length_whole size [] are = omega arith
+length_whole size (f ∷ frames) are =
+    length-append f (concat frames) ∙ ap (λ (n : ℕ). n + length (concat frames)) are.0 ∙ ap (λ (n : ℕ). size + n) (length_whole size frames are.1) ∙ sym (one_more size (length frames))
+
+-- others stand in place of some of them
+pub frames_replaced : (size k rest : ℕ) (old new : List ℕ) (fresh : List Frame) → new ≡ take (k * size) old ++ (concat fresh ++ drop ((k + length fresh) * size) old)
+    → k * size ≤ length old → AreFramesOf size fresh
+    → frames_of size (k + (length fresh + rest)) new ≡ take k (frames_of size (k + (length fresh + rest)) old) ++ (fresh ++ drop (k + length fresh) (frames_of size (k + (length fresh + rest)) old))
+frames_replaced size k rest old new fresh is fit are =
+    let m = length fresh in
+    let tail : List ℕ = drop ((k + length fresh) * size) old in
+    let long : length (take (k * size) old) ≡ k * size = length-take-le (k * size) old fit in
+    let inner : length (concat fresh) ≡ length fresh * size = length_whole size fresh are in
+    let all : (k + length fresh) + rest ≡ k + (length fresh + rest) = omega arith in
+    ap (λ (bytes : List ℕ). frames_of size (k + (length fresh + rest)) bytes) is
+    ∙ frames_joined size k (length fresh + rest) (take (k * size) old ++ (concat fresh ++ tail))
+    ∙ ap (λ (fs : List Frame). fs ++ frames_of size (length fresh + rest) (drop (k * size) (take (k * size) old ++ (concat fresh ++ tail))))
+    (sym (frames_taken size k (take (k * size) old ++ (concat fresh ++ tail)))
+    ∙ ap (λ (bytes : List ℕ). frames_of size k bytes)
+    (take-append-le (k * size) (take (k * size) old) (concat fresh ++ tail) (omega (arith, long)) ∙ take-take (k * size) (k * size) old (omega arith))
+    ∙ frames_taken size k old
+    ∙ sym (frames_stay size k (length fresh + rest) old))
+    ∙ ap (λ (bytes : List ℕ). take k (frames_of size (k + (length fresh + rest)) old) ++ frames_of size (length fresh + rest) bytes)
+    (ap (λ (n : ℕ). drop n (take (k * size) old ++ (concat fresh ++ tail))) (sym long) ∙ drop-append_seam (take (k * size) old) (concat fresh ++ tail))
+    ∙ ap (λ (fs : List Frame). take k (frames_of size (k + (length fresh + rest)) old) ++ fs)
+    (frames_joined size (length fresh) rest (concat fresh ++ tail)
+    ∙ ap (λ (fs : List Frame). fs ++ frames_of size rest (drop (length fresh * size) (concat fresh ++ tail)))
+    (sym (frames_taken size (length fresh) (concat fresh ++ tail))
+    ∙ ap (λ (bytes : List ℕ). frames_of size (length fresh) bytes)
+    (take-append-le (length fresh * size) (concat fresh) tail (omega (arith, inner)) ∙ take_all (length fresh * size) (concat fresh) (omega (arith, inner)))
+    ∙ frames_back size fresh are)
+    ∙ ap (λ (fs : List Frame). fresh ++ fs)
+    (ap (λ (bytes : List ℕ). frames_of size rest bytes)
+    (ap (λ (n : ℕ). drop n (concat fresh ++ tail)) (sym inner) ∙ drop-append_seam (concat fresh) tail)
+    ∙ sym (frames_dropped size (k + length fresh) rest old)
+    ∙ ap (λ (n : ℕ). drop (k + length fresh) (frames_of size n old)) all))
 
 -- the bytes of all frames but the first k
 pub bytes_behind : (size k n : ℕ) (bytes : List ℕ) → length bytes ≡ (k + n) * size → concat (drop k (frames_of size (k + n) bytes)) ≡ drop (k * size) bytes

@@ -32,6 +32,12 @@ one_share c k from m s s' e h = omega (arith, h, ap (λ (x : ℕ). c * x) e, twi
 pub two_shares : (c k k' from m s s' s'' : ℕ) → k - from ≡ m → k' - from ≡ m → s' ≤ s + 2 * (c * (k - from)) → s'' ≤ s' + 2 * (c * (k' - from)) → s'' ≤ s + c * (4 * m)
 two_shares c k k' from m s s' s'' e e' h h' = omega (arith, one_share c k from m s s' e h, one_share c k' from m s' s'' e' h', four_fold c m)
 
+-- where a part of what is paid is altered
+pub two_shares_within : (c k from m s s' s'' : ℕ) → k - from ≤ m → s' ≤ s + 2 * (c * (k - from)) → s'' ≤ s' + 2 * (c * (k - from)) → s'' ≤ s + c * (4 * m)
+two_shares_within c k from m s s' s'' l h h' =
+    let four : 4 * (k - from) ≤ 4 * m = omega (arith, l) in
+    omega (arith, two_shares c k k from (k - from) s s' s'' refl refl h h', mul-le-mul_left c four)
+
 -- ---- messages
 
 -- what is altered is clipped again

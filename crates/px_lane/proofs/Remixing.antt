@@ -1,5 +1,5 @@
 -- A sink of which the frames past those that stay are mixed.
-use Rattle.std.proofs.Common.{◌≡◌, ℕ, ◌+◌, ◌-◌, ◌*◌, ◌≤◌, List, ◌++◌, Bool, map, length, take, ap, sym, ◌∙◌, arith, append_assoc, length-take}
+use Rattle.std.proofs.Common.{◌≡◌, ℕ, ◌+◌, ◌-◌, ◌*◌, ◌≤◌, List, ◌++◌, Bool, map, length, take, drop, refl, subst, ap, sym, ◌∙◌, arith, append_assoc, length-take}
 use Rattle.std.proofs.Math.Nat.{mul-le-mul_right}
 use Rattle.std.specs.List.{concat, range_with_len}
 use Rattle.std.proofs.lemmas.List.{take-take, take-append-le}
@@ -10,14 +10,14 @@ use Rattle.px_msg.specs.View.{sample_spec}
 use Rattle.px_model.specs.Frame.{Frame, frames_of}
 use Rattle.px_model.specs.Sink.{Sink, Input, streams_of}
 use Rattle.px_model.specs.Mix.{mix_of}
-use Rattle.px_model.specs.Turn.{remixed}
+use Rattle.px_model.specs.Turn.{remixed, fresh_mix}
 use Rattle.px_lane.specs.Mixing.{Counts, AreInOrder, sink_of}
-use Rattle.px_lane.specs.Unaltered.{IsUnaltered}
+use Rattle.px_lane.specs.Unaltered.{IsUnaltered, IsResumed}
 use Rattle.px_stream.specs.Samples.{samples}
-use Rattle.px_lane.proofs.Buffers.{frames_renewed, length_frames}
+use Rattle.px_lane.proofs.Buffers.{frames_renewed, frames_replaced, length_frames}
 use Rattle.px_lane.proofs.Runs.{range_parts}
 use Rattle.px_lane.proofs.Shares.{mixes_sized}
-use Rattle.px_lane.proofs.Staying.{unaltered_front, remixed_stays}
+use Rattle.px_lane.proofs.Staying.{unaltered_front, remixed_stays, renewed_stays}
 
 -- the front of what is taken and what comes behind it
 same_front : (k : ℕ) (old more : List Frame) → k ≤ length old → take k (take k old ++ more) ≡ take k old
@@ -80,3 +80,58 @@ module _ (spec : Spec) (linear : IsLinear spec.format) (counts : Counts) (order 
 
   pub all_stays : IsUnaltered (counts.depth - below) (remixed samples before)
   all_stays = remixed_stays before order.consumed_first order.horizon_first order.filled_bounded long
+
+-- the altered frames are packed, up to where the sink resumes
+module _ (spec : Spec) (linear : IsLinear spec.format) (counts : Counts) (order : AreInOrder counts) (stopped : Bool) (old new : List ℕ) (inputs : List Input) (n end to : ℕ)
+    (full : length old ≡ counts.depth * frame_size_of spec) (low : n ≤ end) (high : to ≤ end) (within : end ≤ counts.filled - counts.horizon)
+    (made : new ≡ take (((counts.horizon - counts.consumed) + n) * frame_size_of spec) old
+    ++ (concat (map (mix_of samples (sample_spec spec) (streams_of inputs)) (range_with_len n (end - n))) ++ drop (((counts.horizon - counts.consumed) + end) * frame_size_of spec) old)) where
+  abbrev was : Sink
+  was = sink_of spec counts stopped old inputs
+
+  abbrev at : ℕ
+  at = (counts.horizon - counts.consumed) + n
+
+  abbrev fresh : List Frame
+  fresh = map (mix_of samples (sample_spec spec) (streams_of inputs)) (range_with_len n (end - n))
+
+  abbrev rest : ℕ
+  rest = counts.filled - counts.horizon - end
+
+  count : length fresh ≡ end - n
+  count = length-map-range_with_len (mix_of samples (sample_spec spec) (streams_of inputs)) n (end - n)
+
+  placed : new ≡ take (at * frame_size_of spec) old ++ (concat fresh ++ drop ((at + length fresh) * frame_size_of spec) old)
+  placed =
+      let last : (counts.horizon - counts.consumed) + end ≡ at + length fresh = omega (arith, count, low) in
+      made ∙ ap (λ (m : ℕ). take (at * frame_size_of spec) old ++ (concat fresh ++ drop (m * frame_size_of spec) old)) last
+
+  pub renewed_buffer : frames_of (frame_size_of spec) (counts.filled - counts.consumed) new ≡ take at was.buffer ++ (fresh ++ drop (at + length fresh) was.buffer)
+  renewed_buffer =
+      let few : at ≤ counts.depth = omega (arith, order.consumed_first, order.horizon_first, order.filled_bounded, low, within) in
+      let all : at + (length fresh + rest) ≡ counts.filled - counts.consumed = omega (arith, count, order.consumed_first, order.horizon_first, low, within) in
+      subst (λ (m : ℕ). frames_of (frame_size_of spec) m new ≡ take at (frames_of (frame_size_of spec) m old) ++ (fresh ++ drop (at + length fresh) (frames_of (frame_size_of spec) m old))) all
+      (frames_replaced (frame_size_of spec) at rest old new fresh placed (omega (arith, full, mul-le-mul_right (frame_size_of spec) few)) (mixes_sized spec linear (streams_of inputs) n (end - n)))
+
+  pub renewed_unaltered : IsUnaltered n was → IsResumed to was → IsUnaltered (counts.filled - counts.horizon) (sink_of spec counts stopped new inputs)
+  renewed_unaltered stays again =
+      subst (λ (b : List Frame). let s : Sink = record was { buffer = b } in IsUnaltered (counts.filled - counts.horizon) s) (sym renewed_buffer)
+      (renewed_stays was n end to fresh order.consumed_first (length_frames (frame_size_of spec) (counts.filled - counts.consumed) old) low high within refl stays again)
+
+  pub renewed_front : take at (frames_of (frame_size_of spec) (counts.filled - counts.consumed) new) ≡ take at was.buffer
+  renewed_front =
+      ap (λ (b : List Frame). take at b) renewed_buffer
+      ∙ same_front at was.buffer (fresh ++ drop (at + length fresh) was.buffer)
+      (omega (arith, length_frames (frame_size_of spec) (counts.filled - counts.consumed) old, order.consumed_first, order.horizon_first, low, within))
+
+-- ---- both
+
+pub shorter : (a b : ℕ) (xs ys : List Frame) → a ≤ b → take b xs ≡ take b ys → take a xs ≡ take a ys
+shorter a b xs ys few same = sym (take-take a b xs few) ∙ ap (λ (zs : List Frame). take a zs) same ∙ take-take a b ys few
+
+-- another buffer with the same front is mixed to the same
+pub remixed_by_front : (sink : Sink) (n : ℕ) (buffer : List Frame) → take ((sink.horizon - sink.consumed) + n) buffer ≡ take ((sink.horizon - sink.consumed) + n) sink.buffer
+    → remixed samples (record sink { buffer = buffer }) ≡ remixed samples sink
+remixed_by_front sink n buffer same =
+    ap (λ (front : List Frame). let s : Sink = record (remixed samples sink) { buffer = front ++ fresh_mix samples sink (sink.consumed + sink.depth - sink.horizon) } in s)
+    (shorter (sink.horizon - sink.consumed) ((sink.horizon - sink.consumed) + n) buffer sink.buffer (omega arith) same)

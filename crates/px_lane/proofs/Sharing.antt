@@ -11,8 +11,8 @@ use Rattle.px_model.specs.Control.{with_factors}
 use Rattle.px_model.specs.Sink.{Input as Stands, IsRising, stream_at, with_stream, with_change, with_input}
 use Rattle.px_kernel.specs.Kernel.{changed}
 use Rattle.px_mixcache.specs.Cache.{KeptSums, kept_at}
-use Rattle.px_kept_mix.specs.Kept.{from_on, AddLittle, changed_there}
-use Rattle.px_kept_mix.specs.Keeping.{SharesThere, AreSmall, IsKept, SoundsBefore}
+use Rattle.px_kept_mix.specs.Kept.{from_on, between, AddLittle, changed_there}
+use Rattle.px_kept_mix.specs.Keeping.{SharesThere, SharesBetweenThere, AreSmall, IsKept, SoundsBefore}
 use Rattle.px_stream.specs.Heard.{SoundsSame}
 use Rattle.px_stream.specs.HeldStream.{HeldStream}
 use Rattle.px_stream.specs.Samples.{samples}
@@ -39,6 +39,12 @@ none_from from k = cond_both (nat_lt k from) (pos 0) (pos 0) (λ z. pos 0 ≡ z)
 
 pub nothing_shared : (add : Bool) (sink : Spec) (from : ℕ) (kept : KeptSums) → SharesThere add sink None from kept kept
 nothing_shared add sink from kept c k fed less = none_changed add (kept_at kept c k) ∙ ap (λ (z : ℤ). changed add (kept_at kept c k) z) (none_from from k)
+
+none_between : (from to k : ℕ) → pos 0 ≡ between from to k (pos 0)
+none_between from to k = cond_both (nat_lt k to) (from_on from k (pos 0)) (pos 0) (λ z. pos 0 ≡ z) (λ e. none_from from k) (λ e. refl)
+
+pub nothing_shared_between : (add : Bool) (sink : Spec) (from to : ℕ) (kept : KeptSums) → SharesBetweenThere add sink None from to kept kept
+nothing_shared_between add sink from to kept c k fed less = none_changed add (kept_at kept c k) ∙ ap (λ (z : ℤ). changed add (kept_at kept c k) z) (none_between from to k)
 
 -- ---- room
 

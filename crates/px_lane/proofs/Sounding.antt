@@ -1,5 +1,5 @@
 -- Streams that sound as before are mixed as before.
-use Rattle.std.proofs.Common.{◌≡◌, ℕ, zero, suc, ◌+◌, ◌<◌, ◌≤◌, List, [], ◌∷◌, map, length, Bool, true, false, cond, Option, None, Some, refl, ap, sym, subst, ◌∙◌, arith, ⊎_elim}
+use Rattle.std.proofs.Common.{◌≡◌, ℕ, zero, suc, ◌+◌, ◌<◌, ◌≤◌, ◌⊎◌, inl, inr, List, [], ◌∷◌, map, length, Bool, true, false, cond, Option, None, Some, refl, ap, sym, subst, ◌∙◌, arith, ⊎_elim}
 use Rattle.std.specs.Prelude.{ℤ, pos, ◌+ℤ◌, nat_lt, ◌==◌, slice_index, flat_map, ⊤}
 use Rattle.std.specs.Int.{saturate_signed}
 use Rattle.std.specs.List.{fold, range_with_len, AllByRecursion}
@@ -18,7 +18,7 @@ use Rattle.px_stream.specs.Samples.{samples}
 use Rattle.px_stream.specs.Heard.{heard_at, SoundsSame}
 use Rattle.px_model.specs.Message.{StreamMessage}
 use Rattle.px_model.specs.Applied.{applied}
-use Rattle.px_kept_mix.specs.Keeping.{SoundsBefore}
+use Rattle.px_kept_mix.specs.Keeping.{SoundsBefore, SoundsOutside}
 use Rattle.px_stream.proofs.Sounding.{unaltered_sounds}
 use Rattle.px_lane.specs.Unaltered.{MixesSame}
 use Rattle.px_lane.specs.Costs.{unaltered_there}
@@ -167,3 +167,18 @@ pub unaltered_mixes : (sink : SampleSpec) (n : ℕ) (m : StreamMessage) (i : ℕ
 unaltered_mixes sink n m i xs rising k l =
     mix_same sink k xs (with_change i (applied n m) xs)
     (change_sounds i k (applied n m) xs rising (λ s at. unaltered_sounds m s n k (subst (λ (o : Option Stream). k < unaltered_there n m o) at l)))
+
+-- ---- a message that alters a stretch
+
+-- what leaves all outside a stretch does so outside a longer one
+pub sounds_wider : (n from to first last : ℕ) (f : Stream → Stream) (o : Option Stream) → SoundsOutside n from to f o → first ≤ from → to ≤ last → SoundsOutside n first last f o
+sounds_wider n from to first last f None h low high = tt
+sounds_wider n from to first last f (Some s) h low high =
+    λ k less out. h k less (⊎_elim (λ (before : k < first). inl (omega (arith, before, low))) (λ (past : last ≤ k). inr (omega (arith, past, high))) out)
+
+-- the mix past it is as before
+pub resumed_mixes : (sink : SampleSpec) (n from to : ℕ) (f : Stream → Stream) (i : ℕ) (xs : List Input) → IsRising xs → SoundsOutside n from to f (stream_at i xs)
+    → (k : ℕ) → to ≤ k → k < n → mix_of samples sink (streams_of (with_change i f xs)) k ≡ mix_of samples sink (streams_of xs) k
+resumed_mixes sink n from to f i xs rising h k past less =
+    mix_same sink k xs (with_change i f xs)
+    (change_sounds i k f xs rising (λ s at. subst (λ (o : Option Stream). SoundsOutside n from to f o) at h k less (inr past)))

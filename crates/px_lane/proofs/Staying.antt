@@ -1,15 +1,17 @@
 -- Frames that stay what the mix of their streams is.
-use Rattle.std.proofs.Common.{◌≡◌, ℕ, ◌+◌, ◌-◌, ◌<◌, ◌≤◌, List, ◌++◌, map, length, take, drop, Some, refl, ap, sym, ◌∙◌, arith, length-take, length-drop}
+use Rattle.std.proofs.Common.{◌≡◌, ℕ, ◌+◌, ◌-◌, ◌<◌, ◌≤◌, List, ◌++◌, map, length, take, drop, ⊎_elim, Some, refl, ap, sym, ◌∙◌, arith, length-take, length-drop}
+use Rattle.std.specs.Prelude.{slice_get}
 use Rattle.std.specs.List.{range_with_len, AllByRecursion}
+use Rattle.std.proofs.lemmas.Bool.{cases_lt}
 use Rattle.std.proofs.Math.Seq.{take-add}
 use Rattle.std.proofs.lemmas.List.FromFn.{length-map-range_with_len}
 use Rattle.px_model.specs.Frame.{Frame}
 use Rattle.px_model.specs.Mix.{mix_of}
 use Rattle.px_model.specs.Sink.{Sink, Input, IsStreamOf, streams_of}
 use Rattle.px_model.specs.Turn.{next_horizon, settled, remixed, fresh_mix}
-use Rattle.px_model.proofs.Places.{get-drop, get-take, get_right, get-range, same_gets}
+use Rattle.px_model.proofs.Places.{get-drop, get-take, get_left, get_right, get-range, same_gets}
 use Rattle.px_stream.specs.Samples.{samples}
-use Rattle.px_lane.specs.Unaltered.{MixesSame, IsUnaltered}
+use Rattle.px_lane.specs.Unaltered.{MixesSame, MixesSameFrom, IsUnaltered, IsResumed}
 use Rattle.px_lane.proofs.Sounding.{mix_gone}
 
 pub none_stays : (sink : Sink) → IsUnaltered 0 sink
@@ -32,6 +34,45 @@ pub unaltered_stays : (sink : Sink) (n j i : ℕ) (inputs : List Input) → IsUn
 unaltered_stays sink n j i inputs h same few fewer = record {
   within = omega (arith, h.within, few);
   mixed = λ k l. h.mixed k (omega (arith, l, few)) ∙ ap (λ (f : Frame). Some f) (sym (same k (omega (arith, l, fewer))));
+}
+
+-- and from a frame on as before
+pub resumed_stays : (sink : Sink) (n to : ℕ) (inputs : List Input) → IsUnaltered n sink → n ≡ sink.filled - sink.horizon → MixesSameFrom sink.spec to n sink.inputs inputs → IsResumed to (record sink { inputs = inputs })
+resumed_stays sink n to inputs h all same k past less =
+    h.mixed k (omega (arith, all, less)) ∙ ap (λ (f : Frame). Some f) (sym (same k past (omega (arith, all, less))))
+
+-- the altered frames are mixed again, up to where it resumes
+pub renewed_stays : (sink : Sink) (n end to : ℕ) (fresh : List Frame) → sink.consumed ≤ sink.horizon → length sink.buffer ≡ sink.filled - sink.consumed → n ≤ end → to ≤ end → end ≤ sink.filled - sink.horizon
+    → fresh ≡ map (mix_of samples sink.spec (streams_of sink.inputs)) (range_with_len n (end - n)) → IsUnaltered n sink → IsResumed to sink
+    → IsUnaltered (sink.filled - sink.horizon) (record sink {
+      buffer = take ((sink.horizon - sink.consumed) + n) sink.buffer ++ (fresh ++ drop ((sink.horizon - sink.consumed) + n + length fresh) sink.buffer);
+    })
+renewed_stays sink n end to fresh first full low high inside made h again = record {
+  within = omega arith;
+  mixed = λ k l.
+      let below : ℕ = sink.horizon - sink.consumed in
+      let a : ℕ = (sink.horizon - sink.consumed) + n in
+      let rest : List Frame = drop ((sink.horizon - sink.consumed) + n + length fresh) sink.buffer in
+      let long : length (take ((sink.horizon - sink.consumed) + n) sink.buffer) ≡ (sink.horizon - sink.consumed) + n = omega (arith, length-take ((sink.horizon - sink.consumed) + n) sink.buffer, full, first, h.within) in
+      let count : length fresh ≡ end - n = ap (λ (fs : List Frame). length fs) made ∙ length-map-range_with_len (mix_of samples sink.spec (streams_of sink.inputs)) n (end - n) in
+      ⊎_elim
+      (λ (front : k < n).
+      get_left (take ((sink.horizon - sink.consumed) + n) sink.buffer) (fresh ++ rest) ((sink.horizon - sink.consumed) + k) (omega (arith, long, front))
+      ∙ get-take ((sink.horizon - sink.consumed) + n) sink.buffer ((sink.horizon - sink.consumed) + k) (omega (arith, front))
+      ∙ h.mixed k front)
+      (λ (later : n ≤ k).
+      get_right (take ((sink.horizon - sink.consumed) + n) sink.buffer) (fresh ++ rest) (k - n) ((sink.horizon - sink.consumed) + k) (omega (arith, long, later))
+      ∙ ⊎_elim
+      (λ (among : k < end).
+      get_left fresh rest (k - n) (omega (arith, count, among, later))
+      ∙ ap (λ (fs : List Frame). slice_get fs (k - n)) made
+      ∙ get-range (mix_of samples sink.spec (streams_of sink.inputs)) n (end - n) (k - n) k (omega (arith, among, later)) (omega (arith, later)))
+      (λ (past : end ≤ k).
+      get_right fresh rest (k - end) (k - n) (omega (arith, count, past, low))
+      ∙ get-drop ((sink.horizon - sink.consumed) + n + length fresh) sink.buffer (k - end) ((sink.horizon - sink.consumed) + k) (omega (arith, count, past, low))
+      ∙ again k (omega (arith, past, high)) l)
+      (cases_lt k end))
+      (cases_lt k n);
 }
 
 -- ---- mixing

@@ -69,6 +69,27 @@ fn pack_between<T: Ledger>(
     inputs.pack(from, &mut bytes.as_mut_slice()[at..to], steps);
 }
 
+// Packs the mixed frames from frame `from` up to frame `to` over bytes `at` to `end`.
+fn pack_part<T: Ledger>(
+    inputs: &MixedInputs,
+    from: u32,
+    to: u32,
+    bytes: &mut Vec<u8>,
+    at: usize,
+    end: usize,
+    steps: &mut Steps<T>,
+)
+    requires order { from ≤ to }
+    requires mixed { to ≤ inputs.now.frames }
+    requires size { end ≡ at + (to - from) * frame_size_of inputs.now.spec }
+    requires inside { end ≤ length bytes.old.items }
+    ensures size { length bytes.new.items ≡ length bytes.old.items }
+    ensures bytes { bytes.new.items ≡ take at bytes.old.items ++ (concat (map (mix_of samples (sample_spec inputs.now.spec) (streams_of inputs.now.inputs)) (range_with_len from (to - from))) ++ drop end bytes.old.items) }
+    ensures ticks { steps.new ≡ steps.old + inputs.now.spec.channels * (to - from) }
+{
+    inputs.pack_between(from, to, &mut bytes.as_mut_slice()[at..end], steps);
+}
+
 impl Buffer {
     /// `size` zero bytes. Takes memory for twice as many.
     pub(crate) fn new(alloc: Global, size: usize) -> Mem<Buffer>
@@ -111,6 +132,29 @@ impl Buffer {
     {
         let to = self.gone + self.size;
         pack_between(inputs, from, &mut self.bytes, self.gone + at, to, steps);
+    }
+
+    /// Packs the mixed frames from frame `from` up to frame `to` over the bytes from `at` up to `end`.
+    pub(crate) fn pack_part<T: Ledger>(
+        &mut self,
+        inputs: &MixedInputs,
+        from: u32,
+        to: u32,
+        at: usize,
+        end: usize,
+        steps: &mut Steps<T>,
+    )
+        requires order { from ≤ to }
+        requires mixed { to ≤ inputs.now.frames }
+        requires size { end ≡ at + (to - from) * frame_size_of inputs.now.spec }
+        requires inside { end ≤ length self.old }
+        ensures size { length self.new ≡ length self.old }
+        ensures bytes { self.new ≡ take at self.old ++ (concat (map (mix_of samples (sample_spec inputs.now.spec) (streams_of inputs.now.inputs)) (range_with_len from (to - from))) ++ drop end self.old) }
+        ensures ticks { steps.new ≡ steps.old + inputs.now.spec.channels * (to - from) }
+    {
+        let start = self.gone + at;
+        let past = self.gone + end;
+        pack_part(inputs, from, to, &mut self.bytes, start, past, steps);
     }
 
     /// The bytes.

@@ -7,7 +7,7 @@ ghost use Rattle.px_model.specs.Notice.{Notice as ModelNotice};
 ghost use Rattle.px_model.specs.Turn.{with_each_factors, message_notices, latency_of, is_playing};
 ghost use Rattle.px_msg.specs.View.{gains};
 ghost use Rattle.px_model.specs.Applied.{applied};
-ghost use Rattle.px_kept_mix.specs.Keeping.{AreSmall, IsAsLarge, SharesThere, AreLittleThere};
+ghost use Rattle.px_kept_mix.specs.Keeping.{AreSmall, IsAsLarge, SharesThere, SharesBetweenThere, AreLittleThere, SoundsOutside};
 ghost use Rattle.px_stream.specs.Messages.{message_of, room_for, blocks_with};
 ghost use Rattle.px_lane.specs.Taking.{AreFed, FactorsFit, SuitsAt, is_overflow, overflows_at};
 ghost use Rattle.px_lane.specs.Inputs.{inputs_of, HasRoom};
@@ -17,6 +17,7 @@ ghost use Rattle.px_lane.specs.Places.{AreBelow, IsAt, IsGap};
 ghost use Rattle.px_lane.specs.declared.input.Input.{Input as DeclaredInput};
 
 use crate::NoticeList;
+use crate::altered::Altered;
 use crate::input::Input;
 use px_block::BlockSource;
 use px_kept_mix::KeptMix;
@@ -123,15 +124,22 @@ pub(crate) fn change_at<B: BlockSource>(
     }
 }
 
-/// How many of the next `mixed` frames of this index's stream, if it is there, sound as before once a message is applied.
-pub(crate) fn unaltered_at(inputs: &[Input], index: InputId, change: &StreamMsg, mixed: u64) -> u64
+/// Which of the next `mixed` frames a message alters to the stream of this index, if it is there.
+pub(crate) fn altered_at(
+    inputs: &[Input],
+    index: InputId,
+    change: &StreamMsg,
+    mixed: u64,
+) -> Altered
     requires rising { IsRising (inputs_of inputs.now) }
     requires suits { SuitsAt (stream_at index.0 (inputs_of inputs.now)) (message_of change.now) }
-    ensures { result ≡ unaltered_there mixed (message_of change.now) (stream_at index.0 (inputs_of inputs.now)) }
+    ensures from { result.from ≡ unaltered_there mixed (message_of change.now) (stream_at index.0 (inputs_of inputs.now)) }
+    ensures inside { result.to ≤ mixed }
+    ensures sounds { SoundsOutside mixed result.from result.to (applied mixed (message_of change.now)) (stream_at index.0 (inputs_of inputs.now)) }
 {
     match find(inputs, index) {
-        Err(_) => mixed,
-        Ok(place) => inputs[place].stream.unaltered(change, mixed),
+        Err(_) => Altered { from: mixed, to: 0 },
+        Ok(place) => Altered::of(&inputs[place].stream, change, mixed),
     }
 }
 
@@ -169,6 +177,34 @@ pub(crate) fn share_at<T: Ledger>(
     match find(inputs, index) {
         Err(_) => {}
         Ok(place) => kept.change(sink, &inputs[place].stream, from, add, steps),
+    }
+}
+
+/// The same from frame `from` up to frame `to`.
+pub(crate) fn share_between_at<T: Ledger>(
+    inputs: &[Input],
+    index: InputId,
+    sink: &Spec,
+    from: u32,
+    to: u32,
+    add: bool,
+    kept: &mut KeptMix,
+    steps: &mut Steps<T>,
+)
+    requires rising { IsRising (inputs_of inputs.now) }
+    requires fed { AreFed sink.now.channels (inputs_of inputs.now) }
+    requires channels { length kept.old.runs ≡ sink.now.channels }
+    requires order { from ≤ to }
+    requires inside { to ≤ kept.old.frames }
+    requires room { AreSmall 258 kept.old }
+    ensures large { IsAsLarge kept.old kept.new }
+    ensures sums { SharesBetweenThere add sink.now (stream_at index.0 (inputs_of inputs.now)) from to kept.old kept.new }
+    ensures little { AreLittleThere sink.now (stream_at index.0 (inputs_of inputs.now)) from to }
+    ensures ticks { steps.new ≤ steps.old + 2 * (sink.now.channels * (to - from)) }
+{
+    match find(inputs, index) {
+        Err(_) => {}
+        Ok(place) => kept.change_between(sink, &inputs[place].stream, from, to, add, steps),
     }
 }
 

@@ -8,7 +8,7 @@ ghost use Rattle.px_model.specs.Message.{Message, StreamMessage};
 ghost use Rattle.px_msg.specs.View.{gains};
 ghost use Rattle.px_model.specs.Applied.{applied};
 ghost use Rattle.px_model.specs.Turn.{going_notices, asked_stream, asked_notices, with_each_factors, message_notices};
-ghost use Rattle.px_kept_mix.specs.Keeping.{AreSmall, IsAsLarge, SharesThere, AreLittleThere};
+ghost use Rattle.px_kept_mix.specs.Keeping.{AreSmall, IsAsLarge, SharesThere, SharesBetweenThere, AreLittleThere, SoundsOutside};
 ghost use Rattle.px_stream.specs.Messages.{message_of, blocks_with};
 ghost use Rattle.px_lane.specs.Inputs.{input_of, inputs_of, HasRoom};
 ghost use Rattle.px_lane.specs.Asked.{drained, drained_notices};
@@ -16,8 +16,9 @@ ghost use Rattle.px_lane.specs.Costs.{unaltered_there, has_others};
 ghost use Rattle.px_lane.specs.Taking.{AreFed, FactorsFit, SuitsAt, IsRoomy, overflows_at};
 
 use crate::NoticeList;
+use crate::altered::Altered;
 use crate::finding::{
-    answer_at, change_at, close_at, has_others_at, open_at, share_at, unaltered_at,
+    altered_at, answer_at, change_at, close_at, has_others_at, open_at, share_at, share_between_at,
 };
 use crate::input::Input;
 use crate::memory::reserve_inputs;
@@ -137,12 +138,14 @@ impl Inputs {
         change_at(self.items.as_mut_slice(), input, change, mixed, blocks)
     }
 
-    /// How many of the next `mixed` frames of a stream, if it is there, sound as before once a message is applied.
-    pub(crate) fn unaltered(&self, input: InputId, change: &StreamMsg, mixed: u64) -> u64
+    /// Which of the next `mixed` frames of a stream a message alters, if it is there.
+    pub(crate) fn altered(&self, input: InputId, change: &StreamMsg, mixed: u64) -> Altered
         requires { SuitsAt (stream_at input.0 self.now.inputs) (message_of change.now) }
-        ensures { result ≡ unaltered_there mixed (message_of change.now) (stream_at input.0 self.now.inputs) }
+        ensures from { result.from ≡ unaltered_there mixed (message_of change.now) (stream_at input.0 self.now.inputs) }
+        ensures inside { result.to ≤ mixed }
+        ensures sounds { SoundsOutside mixed result.from result.to (applied mixed (message_of change.now)) (stream_at input.0 self.now.inputs) }
     {
-        unaltered_at(self.items.as_slice(), input, change, mixed)
+        altered_at(self.items.as_slice(), input, change, mixed)
     }
 
     /// Whether a stream, if it is there, has factors other than these.
@@ -174,6 +177,40 @@ impl Inputs {
         ensures ticks { steps.new ≤ steps.old + 2 * (sink.now.channels * (kept.old.frames - from)) }
     {
         share_at(self.items.as_slice(), input, sink, from, add, kept, steps);
+    }
+
+    /// The same from frame `from` up to frame `to`.
+    pub(crate) fn share_between<T: Ledger>(
+        &self,
+        input: InputId,
+        sink: &Spec,
+        from: u32,
+        to: u32,
+        add: bool,
+        kept: &mut KeptMix,
+        steps: &mut Steps<T>,
+    )
+        requires fed { AreFed sink.now.channels self.now.inputs }
+        requires channels { length kept.old.runs ≡ sink.now.channels }
+        requires order { from ≤ to }
+        requires inside { to ≤ kept.old.frames }
+        requires room { AreSmall 258 kept.old }
+        ensures rising { IsRising self.now.inputs }
+        ensures large { IsAsLarge kept.old kept.new }
+        ensures sums { SharesBetweenThere add sink.now (stream_at input.0 self.now.inputs) from to kept.old kept.new }
+        ensures little { AreLittleThere sink.now (stream_at input.0 self.now.inputs) from to }
+        ensures ticks { steps.new ≤ steps.old + 2 * (sink.now.channels * (to - from)) }
+    {
+        share_between_at(
+            self.items.as_slice(),
+            input,
+            sink,
+            from,
+            to,
+            add,
+            kept,
+            steps,
+        );
     }
 
     /// Replaces the factors of a stream, if it is there.

@@ -17,11 +17,12 @@ ghost use Rattle.px_stream.specs.Messages.{message_of, blocks_with};
 ghost use Rattle.px_lane.specs.Mixing.{IsMixed};
 ghost use Rattle.px_lane.specs.Mixed.{CanMix};
 ghost use Rattle.px_lane.specs.Needed.{needed, blocks_of, Opens};
-ghost use Rattle.px_lane.specs.Unaltered.{MixesSame};
+ghost use Rattle.px_lane.specs.Unaltered.{MixesSame, MixesSameFrom};
 ghost use Rattle.px_lane.specs.Costs.{unaltered_there};
 ghost use Rattle.px_lane.specs.Taking.{FactorsFit, SuitsAt, IsRoomy, overflows_at};
 
 use crate::adding::add_each;
+use crate::altered::Altered;
 use crate::inputs::Inputs;
 use crate::prepared::Prepared;
 use crate::{MsgList, NoticeList};
@@ -59,11 +60,11 @@ impl Model for MixedInputs {
     ghost invariant = { λ m. IsMixed m.spec × CanMix m.spec.channels m.inputs.inputs × IsKept m.spec m.inputs.inputs m.kept × (m.frames ≡ m.kept.frames) };
 }
 
-/// What a message did: whether its write was refused, and how many frames past the horizon stay as mixed.
+/// What a message did: whether its write was refused, and which mixed frames it altered.
 #[derive(Clone, Copy, Debug, PartialEq, Eq)]
-pub(crate) struct Altered {
+pub(crate) struct Changed {
     pub refused: bool,
-    pub unaltered: u64,
+    pub altered: Altered,
 }
 
 impl MixedInputs {
@@ -201,15 +202,14 @@ impl MixedInputs {
         self.inputs.remove(input)
     }
 
-    /// Applies a message to a stream, if it is there, and exchanges its share from the first altered frame on. `unaltered` counts all mixed frames
-    /// where none is altered. Uses up the room of one message with its blocks.
+    /// Applies a message to a stream, if it is there, and exchanges its share of the altered frames. Uses up the room of one message with its blocks.
     pub(crate) fn change<T: Ledger, B: BlockSource>(
         &mut self,
         input: InputId,
         change: StreamMsg,
         blocks: &mut B,
         steps: &mut Steps<T>,
-    ) -> Altered
+    ) -> Changed
         requires room { 1 ≤ self.old.room }
         requires block_room { blocks_with (message_of change) ≤ self.old.block_room }
         requires suits { SuitsAt (stream_at input.0 self.old.inputs) (message_of change) }
@@ -219,22 +219,23 @@ impl MixedInputs {
         ensures frames { self.new.frames ≡ self.old.frames }
         ensures inputs { self.new.inputs ≡ with_change input.0 (applied self.old.frames (message_of change)) self.old.inputs }
         ensures overflows { result.refused ≡ overflows_at self.old.frames (message_of change) (stream_at input.0 self.old.inputs) }
-        ensures unaltered { result.unaltered ≡ unaltered_there self.old.frames (message_of change) (stream_at input.0 self.old.inputs) }
-        ensures mixes { (sink : SampleSpec) → MixesSame sink result.unaltered self.old.inputs self.new.inputs }
-        ensures ticks { steps.new ≤ steps.old + self.old.spec.channels * (4 * (self.old.frames - result.unaltered)) }
+        ensures unaltered { result.altered.from ≡ unaltered_there self.old.frames (message_of change) (stream_at input.0 self.old.inputs) }
+        ensures mixes { (sink : SampleSpec) → MixesSame sink result.altered.from self.old.inputs self.new.inputs }
+        ensures resumes { (sink : SampleSpec) → MixesSameFrom sink result.altered.to self.old.frames self.old.inputs self.new.inputs }
+        ensures ticks { steps.new ≤ steps.old + self.old.spec.channels * (4 * (self.old.frames - result.altered.from)) }
         ensures room { self.new.room + 1 ≡ self.old.room }
         ensures block_room { self.new.block_room + blocks_with (message_of change) ≡ self.old.block_room }
     {
-        let unaltered = self.inputs.unaltered(input, &change, self.frames as u64);
-        let from = unaltered.min(self.frames as u64) as u32;
+        let mixed = self.frames as u64;
+        let altered = self.inputs.altered(input, &change, mixed);
+        let from = altered.from.min(mixed) as u32;
+        let to = from.max(altered.to as u32);
         self.inputs
-            .share(input, &self.spec, from, false, &mut self.kept, steps);
-        let refused = self
-            .inputs
-            .change(input, change, self.frames as u64, blocks);
+            .share_between(input, &self.spec, from, to, false, &mut self.kept, steps);
+        let refused = self.inputs.change(input, change, mixed, blocks);
         self.inputs
-            .share(input, &self.spec, from, true, &mut self.kept, steps);
-        Altered { refused, unaltered }
+            .share_between(input, &self.spec, from, to, true, &mut self.kept, steps);
+        Changed { refused, altered }
     }
 
     /// Pushes the Drained notices of streams that have ended, and Request notices, with `mixed` frames mixed ahead.
@@ -287,5 +288,22 @@ impl MixedInputs {
         ensures ticks { steps.new ≡ steps.old + self.now.spec.channels * (self.now.frames - from) }
     {
         self.kept.pack(&self.spec, from, out, steps);
+    }
+
+    /// The same from frame `from` up to frame `to`.
+    pub(crate) fn pack_between<T: Ledger>(
+        &self,
+        from: u32,
+        to: u32,
+        out: &mut [u8],
+        steps: &mut Steps<T>,
+    )
+        requires order { from ≤ to }
+        requires inside { to ≤ self.now.frames }
+        requires whole { length out.old ≡ (to - from) * frame_size_of self.now.spec }
+        ensures bytes { out.new ≡ concat (map (mix_of samples (sample_spec self.now.spec) (streams_of self.now.inputs)) (range_with_len from (to - from))) }
+        ensures ticks { steps.new ≡ steps.old + self.now.spec.channels * (to - from) }
+    {
+        self.kept.pack_between(&self.spec, from, to, out, steps);
     }
 }

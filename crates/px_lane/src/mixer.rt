@@ -10,9 +10,10 @@ ghost use Rattle.px_lane.specs.Mixed.{CanMixAll};
 ghost use Rattle.px_lane.specs.Taking.{CanTakeAll};
 ghost use Rattle.px_lane.specs.Inputs.{inputs_of};
 ghost use Rattle.px_lane.specs.Lane.{IsLane};
-ghost use Rattle.px_lane.specs.Costs.{costs_of, mix_cost, turn_cost};
+ghost use Rattle.px_lane.specs.Costs.{costs_of, turn_cost};
 ghost use Rattle.px_lane.specs.Needed.{needed, blocks_of, Opens};
 ghost use Rattle.px_lane.specs.Whole.{AreFramesOf};
+ghost use Rattle.px_lane.specs.Unaltered.{IsResumed};
 ghost use Rattle.px_model.specs.Frame.{frame_size};
 
 use crate::buffer::Buffer;
@@ -33,17 +34,17 @@ use std::sync::ledger::Ledger;
 /// frame that isn't consumed, as many as the depth has room for.
 #[derive(Debug, Drop)]
 pub struct SinkMixer {
-    spec: Spec,
-    guard: u32,
-    depth: u32,
-    consumed: u64,
-    filled: u64,
-    horizon: u64,
-    stopped: bool,
-    bytes: Buffer,
+    pub(crate) spec: Spec,
+    pub(crate) guard: u32,
+    pub(crate) depth: u32,
+    pub(crate) consumed: u64,
+    pub(crate) filled: u64,
+    pub(crate) horizon: u64,
+    pub(crate) stopped: bool,
+    pub(crate) bytes: Buffer,
     // how many frames past the horizon are the mix of the streams as they stand
-    unaltered: u64,
-    inputs: MixedInputs,
+    pub(crate) unaltered: u64,
+    pub(crate) inputs: MixedInputs,
 }
 
 impl Model for SinkMixer {
@@ -179,14 +180,15 @@ impl SinkMixer {
         self.horizon = horizon;
     }
 
-    /// Applies all messages in order, at the horizon, and pushes their notices. Takes no memory.
+    /// Applies all messages in order, at the horizon, and pushes their notices. Answers from which frame past the horizon on the buffer has the mix of
+    /// the streams as they stand then. Takes no memory.
     pub(crate) fn take_all<T: Ledger, B: BlockSource>(
         &mut self,
         messages: &mut Prepared,
         out: &mut NoticeList,
         blocks: &mut B,
         steps: &mut Steps<T>,
-    )
+    ) -> u64
         requires room { length messages.old.messages ≤ self.old.room }
         requires block_room { sum_by blocks_of messages.old.messages ≤ self.old.block_room }
         requires comes { self.old.room ≤ messages.old.room }
@@ -196,6 +198,7 @@ impl SinkMixer {
         requires capacity { length out.old.notices + length (notices_of_messages self.old.sink messages.old.messages) ≤ out.old.capacity }
         requires mixed { self.old.unaltered ≡ self.old.sink.filled - self.old.sink.horizon }
         ensures value { self.new.sink ≡ with_messages self.old.sink messages.old.messages }
+        ensures resumed { IsResumed result self.new.sink }
         ensures less { self.new.unaltered ≤ self.old.unaltered }
         ensures ticks { steps.new + self.old.sink.spec.channels * ((self.old.sink.filled - self.old.sink.horizon) - self.new.unaltered)
             ≤ steps.old + self.old.sink.spec.channels * costs_of (self.old.sink.filled - self.old.sink.horizon) messages.old.messages self.old.sink.inputs }
@@ -205,8 +208,9 @@ impl SinkMixer {
         ensures list { messages.new.capacity ≡ messages.old.capacity }
     {
         let buffered = (self.filled - self.consumed) as u32;
-        let same = self.inputs.take_all(messages, buffered, out, blocks, steps);
-        self.unaltered = self.unaltered.min(same);
+        let altered = self.inputs.take_all(messages, buffered, out, blocks, steps);
+        self.unaltered = self.unaltered.min(altered.from);
+        altered.to
     }
 
     /// Drops all frames from the horizon on, and stops the sink.
@@ -221,32 +225,6 @@ impl SinkMixer {
         self.filled = self.horizon;
         self.unaltered = 0;
         self.stopped = true;
-    }
-
-    /// Mixes all frames from the horizon on afresh, up to the depth: those that are altered, and those that are new. Answers how many past the
-    /// horizon stay what they were.
-    pub(crate) fn remix<T: Ledger>(&mut self, steps: &mut Steps<T>) -> u64
-        requires streams { AllByRecursion (λ x. IsStreamOf self.old.sink.spec (Stands.stream x)) self.old.sink.inputs }
-        requires few { length self.old.sink.inputs ≤ 256 }
-        requires countable { self.old.sink.consumed + self.old.sink.depth ≤ 2 ^ 61 }
-        ensures value { self.new.sink ≡ remixed samples self.old.sink }
-        ensures within { result ≤ self.old.sink.filled - self.old.sink.horizon }
-        ensures stay { take ((self.old.sink.horizon - self.old.sink.consumed) + result) self.new.sink.buffer ≡ take ((self.old.sink.horizon - self.old.sink.consumed) + result) self.old.sink.buffer }
-        ensures unaltered { self.new.unaltered ≡ self.new.sink.filled - self.new.sink.horizon }
-        ensures ticks { steps.new ≤ steps.old + self.old.sink.spec.channels * mix_cost (self.old.sink.consumed + self.old.sink.depth - self.old.sink.filled) (length self.old.sink.inputs)
-            + self.old.sink.spec.channels * ((self.old.sink.filled - self.old.sink.horizon) - self.old.unaltered) }
-        ensures whole { AreFramesOf (frame_size self.new.sink.spec) self.new.sink.buffer }
-        ensures room { self.new.room ≡ self.old.room }
-        ensures block_room { self.new.block_room ≡ self.old.block_room }
-    {
-        let below = self.horizon - self.consumed;
-        let stay = self.unaltered;
-        let at = (below + stay) as usize * self.spec.frame_size();
-        self.inputs.mix((self.depth as u64 - below) as u32, steps);
-        self.bytes.pack(&self.inputs, stay as u32, at, steps);
-        self.unaltered = self.depth as u64 - below;
-        self.filled = self.consumed + self.depth as u64;
-        stay
     }
 
     /// For each stream in order pushes the Drained notices, where it has ended, and a Request notice.
@@ -305,8 +283,8 @@ impl SinkMixer {
         ensures list { messages.new.capacity ≡ messages.old.capacity }
     {
         self.settle(frames, out, blocks);
-        self.take_all(messages, out, blocks, steps);
-        let stay = self.remix(steps);
+        let to = self.take_all(messages, out, blocks, steps);
+        let stay = self.remix(to, steps);
         self.ask(out);
         stay
     }

@@ -11,10 +11,11 @@ ghost use Rattle.px_stream.specs.Messages.{message_of, blocks_with, Suits};
 ghost use Rattle.px_lane.specs.Mixed.{CanMix, CanMixAll};
 ghost use Rattle.px_lane.specs.Needed.{blocks_of};
 ghost use Rattle.px_lane.specs.Taking.{CanTakeAll, HasRoomLeft, IsRoomy, SuitsAt, overflows_at, overflow_if, ready_blocks, ready_inputs, ready_notices, ReadySuits};
-ghost use Rattle.px_lane.specs.Unaltered.{MixesSame};
+ghost use Rattle.px_lane.specs.Unaltered.{MixesSame, MixesSameFrom};
 ghost use Rattle.px_lane.specs.Costs.{change_cost, ready_cost, costs_of};
 
 use crate::NoticeList;
+use crate::altered::Altered;
 use crate::mixed::MixedInputs;
 use crate::prepared::Prepared;
 use crate::ready::Ready;
@@ -76,8 +77,7 @@ impl MixedInputs {
         }
     }
 
-    // Applies a message to a stream, if it is there, and pushes Overflow where a write is refused. Answers how many frames past the horizon are mixed
-    // as before.
+    // Applies a message to a stream, if it is there, and pushes Overflow where a write is refused. Answers which mixed frames are altered.
     fn alter<T: Ledger, B: BlockSource>(
         &mut self,
         input: InputId,
@@ -85,7 +85,7 @@ impl MixedInputs {
         out: &mut NoticeList,
         blocks: &mut B,
         steps: &mut Steps<T>,
-    ) -> u64
+    ) -> Altered
         requires room { 1 ≤ self.old.room }
         requires block_room { blocks_with (message_of change) ≤ self.old.block_room }
         requires suits { SuitsAt (stream_at input.0 self.old.inputs) (message_of change) }
@@ -99,18 +99,19 @@ impl MixedInputs {
         ensures block_room { self.new.block_room + blocks_with (message_of change) ≡ self.old.block_room }
         ensures notices { out.new.notices ≡ out.old.notices ++ overflow_if input.0 (overflows_at self.old.frames (message_of change) (stream_at input.0 self.old.inputs)) }
         ensures capacity { out.new.capacity ≡ out.old.capacity }
-        ensures unaltered { (sink : SampleSpec) → MixesSame sink result self.old.inputs self.new.inputs }
-        ensures ticks { steps.new + self.old.spec.channels * (self.old.frames - result) ≤ steps.old + self.old.spec.channels * change_cost self.old.frames (message_of change) (stream_at input.0 self.old.inputs) }
+        ensures unaltered { (sink : SampleSpec) → MixesSame sink result.from self.old.inputs self.new.inputs }
+        ensures resumed { (sink : SampleSpec) → MixesSameFrom sink result.to self.old.frames self.old.inputs self.new.inputs }
+        ensures ticks { steps.new + self.old.spec.channels * (self.old.frames - result.from) ≤ steps.old + self.old.spec.channels * change_cost self.old.frames (message_of change) (stream_at input.0 self.old.inputs) }
     {
-        let altered = self.change(input, change, blocks, steps);
-        if altered.refused {
+        let changed = self.change(input, change, blocks, steps);
+        if changed.refused {
             out.push(Notice::Overflow { input });
         }
-        altered.unaltered
+        changed.altered
     }
 
-    /// Applies a message, with `buffered` frames in the sink's buffer, and pushes its notices. Answers how many frames past the horizon are mixed as
-    /// before. Uses up the room of one message with its blocks, and takes no memory.
+    /// Applies a message, with `buffered` frames in the sink's buffer, and pushes its notices. Answers which mixed frames are altered. Uses up the room
+    /// of one message with its blocks, and takes no memory.
     pub(crate) fn take<T: Ledger, B: BlockSource>(
         &mut self,
         message: Ready,
@@ -118,7 +119,7 @@ impl MixedInputs {
         out: &mut NoticeList,
         blocks: &mut B,
         steps: &mut Steps<T>,
-    ) -> u64
+    ) -> Altered
         requires room { 1 ≤ self.old.room }
         requires block_room { ready_blocks message ≤ self.old.block_room }
         requires comes { HasRoomLeft (self.old.room - 1) self.old.block_room message }
@@ -134,9 +135,11 @@ impl MixedInputs {
         ensures block_room { self.new.block_room + ready_blocks message ≡ self.old.block_room }
         ensures notices { out.new.notices ≡ out.old.notices ++ ready_notices self.old.frames buffered message self.old.inputs }
         ensures capacity { out.new.capacity ≡ out.old.capacity }
-        ensures unaltered { (sink : SampleSpec) → MixesSame sink result self.old.inputs self.new.inputs }
-        ensures ticks { steps.new + self.old.spec.channels * (self.old.frames - result) ≤ steps.old + self.old.spec.channels * ready_cost self.old.frames message self.old.inputs }
+        ensures unaltered { (sink : SampleSpec) → MixesSame sink result.from self.old.inputs self.new.inputs }
+        ensures resumed { (sink : SampleSpec) → MixesSameFrom sink result.to self.old.frames self.old.inputs self.new.inputs }
+        ensures ticks { steps.new + self.old.spec.channels * (self.old.frames - result.from) ≤ steps.old + self.old.spec.channels * ready_cost self.old.frames message self.old.inputs }
     {
+        let frames = self.frames() as u64;
         match message {
             Ready::Insert { input, stream } => self.insert(input, stream, steps),
             Ready::Join {
@@ -149,17 +152,26 @@ impl MixedInputs {
             Ready::Change { input, change } => {
                 return self.alter(input, change, out, blocks, steps);
             }
-            Ready::Each(list) => return self.set_factors(list.as_slice(), blocks, steps),
+            Ready::Each(list) => {
+                let same = self.set_factors(list.as_slice(), blocks, steps);
+                return Altered::from_on(same, frames);
+            }
             Ready::Answer { input, tag } => {
                 self.answer(input, tag, buffered, out);
-                return self.frames() as u64;
+                return Altered {
+                    from: frames,
+                    to: 0,
+                };
             }
         }
-        0
+        Altered {
+            from: 0,
+            to: frames,
+        }
     }
 
-    /// Applies all messages in order, with `buffered` frames in the sink's buffer, and pushes their notices. Answers how many frames past the horizon
-    /// are mixed as before. Takes no memory.
+    /// Applies all messages in order, with `buffered` frames in the sink's buffer, and pushes their notices. Answers which mixed frames are altered.
+    /// Takes no memory.
     pub(crate) fn take_all<T: Ledger, B: BlockSource>(
         &mut self,
         messages: &mut Prepared,
@@ -167,7 +179,7 @@ impl MixedInputs {
         out: &mut NoticeList,
         blocks: &mut B,
         steps: &mut Steps<T>,
-    ) -> u64
+    ) -> Altered
         requires room { length messages.old.messages ≤ self.old.room }
         requires block_room { sum_by blocks_of messages.old.messages ≤ self.old.block_room }
         requires comes { self.old.room ≤ messages.old.room }
@@ -183,14 +195,19 @@ impl MixedInputs {
         ensures capacity { out.new.capacity ≡ out.old.capacity }
         ensures messages { messages.new.messages ≡ [] }
         ensures list { messages.new.capacity ≡ messages.old.capacity }
-        ensures unaltered { (sink : SampleSpec) → MixesSame sink result self.old.inputs self.new.inputs }
-        ensures ticks { steps.new + self.old.spec.channels * (self.old.frames - result) ≤ steps.old + self.old.spec.channels * costs_of self.old.frames messages.old.messages self.old.inputs }
+        ensures unaltered { (sink : SampleSpec) → MixesSame sink result.from self.old.inputs self.new.inputs }
+        ensures resumed { (sink : SampleSpec) → MixesSameFrom sink result.to self.old.frames self.old.inputs self.new.inputs }
+        ensures ticks { steps.new + self.old.spec.channels * (self.old.frames - result.from) ≤ steps.old + self.old.spec.channels * costs_of self.old.frames messages.old.messages self.old.inputs }
     {
-        let mut unaltered = self.frames() as u64;
+        let frames = self.frames() as u64;
+        let mut altered = Altered {
+            from: frames,
+            to: 0,
+        };
         while let Some(message) = messages.next() {
-            let same = self.take(message, buffered, out, blocks, steps);
-            unaltered = unaltered.min(same);
+            let more = self.take(message, buffered, out, blocks, steps);
+            altered = altered.with(more);
         }
-        unaltered
+        altered
     }
 }

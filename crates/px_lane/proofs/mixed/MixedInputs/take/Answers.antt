@@ -34,12 +34,12 @@ returns-in-Insert-clause-ticks g c =
 pub returns-in-Answer-clause-ticks : goal.returns-in-Answer-clause-ticks
 returns-in-Answer-clause-ticks g c =
     let m = c.args.self.now in
-    subst (λ (r : Ready). c.args.steps.now + c.args.self.now.spec.channels * (c.args.self.now.frames - c.frames.result) ≤ c.args.steps.now + c.args.self.now.spec.channels * ready_cost c.args.self.now.frames r c.args.self.now.inputs) (sym c.in-Answer.is)
-    (none_altered m.spec.channels m.frames c.frames.result c.args.steps.now 0 (omega (arith, c.frames.ensures)))
+    subst (λ (r : Ready). c.args.steps.now + c.args.self.now.spec.channels * (c.args.self.now.frames - c.frames-frames.result) ≤ c.args.steps.now + c.args.self.now.spec.channels * ready_cost c.args.self.now.frames r c.args.self.now.inputs) (sym c.in-Answer.is)
+    (none_altered m.spec.channels m.frames c.frames-frames.result c.args.steps.now 0 (omega (arith, c.frames-frames.ensures)))
 
 pub returns-in-Change-clause-ticks : goal.returns-in-Change-clause-ticks
 returns-in-Change-clause-ticks g c =
-    subst (λ (r : Ready). c.alter.new.steps + c.args.self.now.spec.channels * (c.args.self.now.frames - c.alter.result) ≤ c.args.steps.now + c.args.self.now.spec.channels * ready_cost c.args.self.now.frames r c.args.self.now.inputs) (sym c.in-Change.is)
+    subst (λ (r : Ready). c.alter.new.steps + c.args.self.now.spec.channels * (c.args.self.now.frames - c.alter.result.from) ≤ c.args.steps.now + c.args.self.now.spec.channels * ready_cost c.args.self.now.frames r c.args.self.now.inputs) (sym c.in-Change.is)
     c.alter.ensures.ticks
 
 pub alter-requires-clause-capacity : goal.alter-requires-clause-capacity
@@ -118,7 +118,25 @@ pub returns-in-Change-clause-unaltered : goal.returns-in-Change-clause-unaltered
 returns-in-Change-clause-unaltered g c = c.alter.ensures.unaltered
 
 pub returns-in-Each-clause-unaltered : goal.returns-in-Each-clause-unaltered
-returns-in-Each-clause-unaltered g c = c.set_factors.ensures.mixes
+returns-in-Each-clause-unaltered g c = λ sink k less. c.set_factors-same.ensures.mixes sink k (omega (arith, less, c.from_on.ensures.from))
+
+pub returns-in-Insert-clause-resumed : goal.returns-in-Insert-clause-resumed
+returns-in-Insert-clause-resumed g c = λ sink k past less. absurd (omega (arith, past, less, c.frames-frames.ensures))
+
+pub returns-in-Join-clause-resumed : goal.returns-in-Join-clause-resumed
+returns-in-Join-clause-resumed g c = λ sink k past less. absurd (omega (arith, past, less, c.frames-frames.ensures))
+
+pub returns-in-Remove-clause-resumed : goal.returns-in-Remove-clause-resumed
+returns-in-Remove-clause-resumed g c = λ sink k past less. absurd (omega (arith, past, less, c.frames-frames.ensures))
+
+pub returns-in-Change-clause-resumed : goal.returns-in-Change-clause-resumed
+returns-in-Change-clause-resumed g c = c.alter.ensures.resumed
+
+pub returns-in-Each-clause-resumed : goal.returns-in-Each-clause-resumed
+returns-in-Each-clause-resumed g c = λ sink k past less. c.set_factors-same.ensures.mixes sink k (c.from_on.ensures.past k past (omega (arith, less, c.frames-frames.ensures)))
+
+pub returns-in-Answer-clause-resumed : goal.returns-in-Answer-clause-resumed
+returns-in-Answer-clause-resumed g c = λ sink k past less. refl
 
 pub returns-in-Answer-clause-unaltered : goal.returns-in-Answer-clause-unaltered
 returns-in-Answer-clause-unaltered g c = λ sink k less. refl
@@ -133,7 +151,7 @@ pub returns-in-Remove-clause-block_room : goal.returns-in-Remove-clause-block_ro
 returns-in-Remove-clause-block_room g c = subst (λ (r : Ready). c.leave.new.self.block_room + ready_blocks r ≡ c.args.self.now.block_room) (sym c.in-Remove.is) (omega (arith, c.leave.ensures.block_room))
 
 pub returns-in-Each-clause-block_room : goal.returns-in-Each-clause-block_room
-returns-in-Each-clause-block_room g c = subst (λ (r : Ready). c.set_factors.new.self.block_room + ready_blocks r ≡ c.args.self.now.block_room) (sym c.in-Each.is) (omega (arith, c.set_factors.ensures.block_room))
+returns-in-Each-clause-block_room g c = subst (λ (r : Ready). c.set_factors-same.new.self.block_room + ready_blocks r ≡ c.args.self.now.block_room) (sym c.in-Each.is) (omega (arith, c.set_factors-same.ensures.block_room))
 
 pub returns-in-Change-clause-block_room : goal.returns-in-Change-clause-block_room
 returns-in-Change-clause-block_room g c = subst (λ (r : Ready). c.alter.new.self.block_room + ready_blocks r ≡ c.args.self.now.block_room) (sym c.in-Change.is) c.alter.ensures.block_room

@@ -5,7 +5,7 @@ use Rattle.px_model.specs.Turn.{inputs_with_all, all_message_notices}
 use Rattle.px_lane.specs.Needed.{blocks_of}
 use Rattle.px_lane.specs.Mixed.{CanMixAll}
 use Rattle.px_lane.specs.Taking.{CanTakeAll}
-use Rattle.px_lane.specs.Unaltered.{MixesSame}
+use Rattle.px_lane.specs.Unaltered.{MixesSame, MixesSameFrom}
 use Rattle.px_lane.specs.Costs.{costs_of}
 use Rattle.px_lane.proofs.mixed.MixedInputs.take_all.Given as goal
 
@@ -20,13 +20,14 @@ invariant-loop-message g l =
     × (l.messages.capacity ≡ l.fn.messages.capacity)
     × (sum_by blocks_of l.messages.messages ≤ l.self.block_room)
     × (l.self.block_room ≤ l.messages.block_room)
-    × ((sink : SampleSpec) → MixesSame sink l.unaltered l.fn.self.inputs l.self.inputs)
+    × ((sink : SampleSpec) → MixesSame sink l.altered.from l.fn.self.inputs l.self.inputs)
     × (l.self.spec ≡ l.fn.self.spec)
     × (l.self.depth ≡ l.fn.self.depth)
     × (l.self.frames ≡ l.fn.self.frames)
     × CanMixAll l.fn.self.spec.channels l.fn.self.frames l.messages.messages l.self.inputs
-    × (l.steps + l.fn.self.spec.channels * (l.fn.self.frames - l.unaltered) + l.fn.self.spec.channels * costs_of l.fn.self.frames l.messages.messages l.self.inputs
+    × (l.steps + l.fn.self.spec.channels * (l.fn.self.frames - l.altered.from) + l.fn.self.spec.channels * costs_of l.fn.self.frames l.messages.messages l.self.inputs
     ≤ l.fn.steps + l.fn.self.spec.channels * costs_of l.fn.self.frames l.fn.messages.messages l.fn.self.inputs)
+    × ((sink : SampleSpec) → MixesSameFrom sink l.altered.to l.fn.self.frames l.fn.self.inputs l.self.inputs)
 
 abbrev pub decreases-loop-message : goal.decreases-loop-message
 decreases-loop-message g l = length l.messages.messages
