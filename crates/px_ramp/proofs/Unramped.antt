@@ -1,8 +1,11 @@
 -- Ramps that stand at the factors of their streams, and the frames that they make, which are the plain ones.
 use Rattle.std.proofs.Common.{◌≡◌, ℕ, zero, suc, ◌+◌, ◌-◌, ◌*◌, ◌≤◌, ◌<◌, ◌⊎◌, List, [], ◌∷◌, ◌++◌, length, map, take, drop, get_or, refl, ap, sym, ◌∙◌, subst, arith, ⊎_elim, length-drop}
+use Rattle.std.specs.Prelude.{min, max}
 use Rattle.std.specs.List.{AllByRecursion, concat, range_with_len}
 use Rattle.std.proofs.lemmas.List.{take_more, take_all, map-append, length-take-le}
+use Rattle.std.proofs.Math.Nat.{mul-le-mul_right}
 use Rattle.std.proofs.Math.Seq.{drop-append-add}
+use Rattle.std.proofs.lemmas.List.Folds.{concat-append}
 use Rattle.std.proofs.lemmas.List.FromFn.{length-map-range_with_len}
 use Rattle.px_sample.specs.declared.spec.Spec.{Spec}
 use Rattle.px_sample.specs.Format.{frame_size_of, IsLinear}
@@ -33,8 +36,16 @@ use Rattle.px_ramp.proofs.Ramped.{ramp_stays, ramp_ends, inputs_stand, map_same}
 
 -- ---- one ramp
 
-pub gone_all : (n at f factor : ℕ) (r : Ramp) → 1 ≤ n → r.to ≡ factor → n ≤ at - r.start → at ≤ f → value_at n r f ≡ factor
-gone_all n at f factor r some aims past later = ramp_ends n r f some (omega (arith, some, past, later)) ∙ aims
+pub ends_after : (n at f factor way m most : ℕ) (r : Ramp) → 1 ≤ n → r.to ≡ factor → r.start ≤ at → way ≡ min (at - r.start) n → m ≡ min (n - way) most → at + m ≤ f → f < at + most
+    → value_at n r f ≡ factor
+ends_after n at f factor way m most r some aims begun gone is later less = ramp_ends n r f some (omega (arith, some, begun, gone, is, later, less)) ∙ aims
+
+-- the greater of two numbers
+pub past_both : (at f a b m : ℕ) → m ≡ max a b → at + m ≤ f → (at + a ≤ f) × (at + b ≤ f)
+past_both at f a b m is later = (omega (arith, is, later), omega (arith, is, later))
+
+pub both_few : (a b m most : ℕ) → m ≡ max a b → a ≤ most → b ≤ most → m ≤ most
+both_few a b m most is first second = omega (arith, is, first, second)
 
 pub no_way : (n f factor : ℕ) (r : Ramp) → r.to ≡ factor → r.from ≡ r.to → value_at n r f ≡ factor
 no_way n f factor r aims same = ramp_stays n r f same ∙ aims
@@ -69,12 +80,13 @@ stand_more n f ramps items i x there is all one =
 
 -- ---- the frames
 
--- where all stand, the frames by ramps are the plain ones
-pub frames_stand : (n h : ℕ) (ramps : List InputRamps) (spec : SampleSpec) (inputs : List Stands) (count : ℕ) → ((f : ℕ) → h ≤ f → AllByRecursion (StandAt n f ramps) inputs)
-    → map (mix_of samples spec (streams_of inputs)) (range_with_len 0 count) ≡ map (ramp_frame samples n h ramps spec inputs) (range_with_len 0 count)
-frames_stand n h ramps spec inputs count all =
-    map_same (mix_of samples spec (streams_of inputs)) (ramp_frame samples n h ramps spec inputs) 0 count
-    (λ k high less. ap (λ (xs : List Stands). mix_of samples spec (streams_of xs) k) (sym (inputs_stand n (h + k) ramps inputs (all (h + k) (omega arith)))))
+-- from where all stand on, the frames by ramps are the plain ones
+pub frames_stand : (n h : ℕ) (ramps : List InputRamps) (spec : SampleSpec) (inputs : List Stands) (from count : ℕ)
+    → ((f : ℕ) → h + from ≤ f → f < h + (from + count) → AllByRecursion (StandAt n f ramps) inputs)
+    → map (mix_of samples spec (streams_of inputs)) (range_with_len from count) ≡ map (ramp_frame samples n h ramps spec inputs) (range_with_len from count)
+frames_stand n h ramps spec inputs from count all =
+    map_same (mix_of samples spec (streams_of inputs)) (ramp_frame samples n h ramps spec inputs) from count
+    (λ k high less. ap (λ (xs : List Stands). mix_of samples spec (streams_of xs) k) (sym (inputs_stand n (h + k) ramps inputs (all (h + k) (omega (arith, high)) (omega (arith, less))))))
 
 -- they are whole
 mixes_sized : (spec : Spec) → IsLinear spec.format → (streams : List Stream) (a n : ℕ) → AreFramesOf (frame_size_of spec) (map (mix_of samples (sample_spec spec) streams) (range_with_len a n))
@@ -86,6 +98,63 @@ pub plain_long : (spec : Spec) → IsLinear spec.format → (streams : List Stre
 plain_long spec linear streams count =
     length_concat (frame_size_of spec) (map (mix_of samples (sample_spec spec) streams) (range_with_len 0 count)) (mixes_sized spec linear streams 0 count)
     ∙ ap (λ (m : ℕ). m * frame_size_of spec) (length-map-range_with_len (mix_of samples (sample_spec spec) streams) 0 count)
+
+-- the first `from` of them, and those after these
+range_parts : (f : ℕ → Frame) (a n m : ℕ) → map f (range_with_len a (n + m)) ≡ map f (range_with_len a n) ++ map f (range_with_len (a + n) m)
+range_parts f a zero m =
+    let none : 0 + m ≡ m = omega arith in
+    let here : a ≡ a + 0 = omega arith in
+    ap (λ (n : ℕ). map f (range_with_len a n)) none ∙ ap (λ (k : ℕ). map f (range_with_len k m)) here
+range_parts f a (suc n) m =
+    let more : suc n + m ≡ suc (n + m) = omega arith in
+    let here : a + 1 + n ≡ a + suc n = omega arith in
+    ap (λ (k : ℕ). map f (range_with_len a k)) more
+    ∙ ap (λ (fs : List Frame). f a ∷ fs) (range_parts f (a + 1) n m ∙ ap (λ (k : ℕ). map f (range_with_len (a + 1) n) ++ map f (range_with_len k m)) here)
+
+pub frames_split : (f : ℕ → Frame) (from count : ℕ) → from ≤ count
+    → concat (map f (range_with_len 0 count)) ≡ concat (map f (range_with_len 0 from)) ++ concat (map f (range_with_len from (count - from)))
+frames_split f from count few =
+    let whole : count ≡ from + (count - from) = omega (arith, few) in
+    let here : 0 + from ≡ from = omega arith in
+    ap (λ (n : ℕ). concat (map f (range_with_len 0 n))) whole
+    ∙ ap (λ (fs : List Frame). concat fs) (range_parts f 0 from (count - from))
+    ∙ concat-append (map f (range_with_len 0 from)) (map f (range_with_len (0 + from) (count - from)))
+    ∙ ap (λ (k : ℕ). concat (map f (range_with_len 0 from)) ++ concat (map f (range_with_len k (count - from)))) here
+
+-- the plain bytes without the first `from` frames
+plain_after : (spec : Spec) → IsLinear spec.format → (streams : List Stream) (from count : ℕ) → from ≤ count
+    → drop (from * frame_size_of spec) (concat (map (mix_of samples (sample_spec spec) streams) (range_with_len 0 count)))
+    ≡ concat (map (mix_of samples (sample_spec spec) streams) (range_with_len from (count - from)))
+plain_after spec linear streams from count few =
+    ap (λ (xs : List ℕ). drop (from * frame_size_of spec) xs) (frames_split (mix_of samples (sample_spec spec) streams) from count few)
+    ∙ ap (λ (m : ℕ). drop m (concat (map (mix_of samples (sample_spec spec) streams) (range_with_len 0 from)) ++ concat (map (mix_of samples (sample_spec spec) streams) (range_with_len from (count - from)))))
+    (sym (plain_long spec linear streams from))
+    ∙ drop_front (concat (map (mix_of samples (sample_spec spec) streams) (range_with_len 0 from))) (concat (map (mix_of samples (sample_spec spec) streams) (range_with_len from (count - from))))
+  where
+    drop_front : (xs ys : List ℕ) → drop (length xs) (xs ++ ys) ≡ ys
+    drop_front [] ys = refl
+    drop_front (x ∷ xs) ys = drop_front xs ys
+
+-- they have room after the first `running` frames
+pub after_inside : (size running count : ℕ) (plain : List ℕ) → running ≤ count → length plain ≡ count * size → running * size ≤ length plain
+after_inside size running count plain few long = omega (arith, long, mul-le-mul_right size few)
+
+pub after_fits : (size running count start long room : ℕ) (plain : List ℕ) → running ≤ count → length plain ≡ count * size → long ≡ start + running * size → start + count * size ≤ room
+    → long + (length plain - running * size) ≤ room
+after_fits size running count start long room plain few whole so fit = omega (arith, whole, so, fit, mul-le-mul_right size few)
+
+-- the first `running` frames by ramps, then the plain ones, where all stand after the first
+pub ramped_then_plain : (n h : ℕ) (ramps : List InputRamps) (spec : Spec) → IsLinear spec.format → (inputs : List Stands) (running count : ℕ) → running ≤ count
+    → ((f : ℕ) → h + running ≤ f → f < h + count → AllByRecursion (StandAt n f ramps) inputs)
+    → (plain : List ℕ) → plain ≡ concat (map (mix_of samples (sample_spec spec) (streams_of inputs)) (range_with_len 0 count))
+    → concat (map (ramp_frame samples n h ramps (sample_spec spec) inputs) (range_with_len 0 running)) ++ drop (running * frame_size_of spec) plain
+    ≡ concat (map (ramp_frame samples n h ramps (sample_spec spec) inputs) (range_with_len 0 count))
+ramped_then_plain n h ramps spec linear inputs running count few stand plain is =
+    ap (λ (xs : List ℕ). concat (map (ramp_frame samples n h ramps (sample_spec spec) inputs) (range_with_len 0 running)) ++ xs)
+    (ap (λ (xs : List ℕ). drop (running * frame_size_of spec) xs) is
+    ∙ plain_after spec linear (streams_of inputs) running count few
+    ∙ ap (λ (fs : List Frame). concat fs) (frames_stand n h ramps (sample_spec spec) inputs running (count - running) (λ f later less. stand f later (omega (arith, less, few)))))
+    ∙ sym (frames_split (ramp_frame samples n h ramps (sample_spec spec) inputs) running count few)
 
 -- what a plain turn has mixed from its horizon on is the mix of the inputs that it leaves
 pub fresh_plain : (sink : Sink) (k : ℕ) (messages : List (Message Stream)) → IsLane sink → k ≤ sink.filled - sink.consumed

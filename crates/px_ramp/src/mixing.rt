@@ -1,5 +1,5 @@
 // The mix of frames by ramps.
-ghost use Rattle.std.specs.Prelude.{◌≡◌, ℕ, ◌+◌, ◌*◌, ◌^◌, ◌<◌, ◌≤◌, ◌++◌, pos, length, map, All, FitsSigned, vec_capacity};
+ghost use Rattle.std.specs.Prelude.{◌≡◌, ℕ, ◌+◌, ◌-◌, ◌*◌, ◌^◌, ◌<◌, ◌≤◌, ◌++◌, pos, length, map, drop, All, FitsSigned, vec_capacity};
 ghost use Rattle.std.specs.Int.{w32};
 ghost use Rattle.std.specs.List.{concat, range_with_len};
 ghost use Rattle.px_sample.specs.Format.{frame_size_of, IsLinear};
@@ -16,7 +16,7 @@ ghost use Rattle.px_ramp.specs.RampMix.{ramped_input, ramped_inputs, ramp_frame}
 ghost use Rattle.px_ramp.specs.Table.{AreWide};
 
 use crate::shares::add_share;
-use crate::standing::all_stand;
+use crate::standing::running;
 use crate::table::RampTable;
 use px_kernel::Steps;
 use px_lane::Input;
@@ -45,6 +45,16 @@ fn append(bytes: &mut Vec<u8>, more: &[u8])
     ensures capacity { vec_capacity bytes.old ≤ vec_capacity bytes.new }
 {
     bytes.extend_from_slice(more).unwrap();
+}
+
+// Appends the bytes from `from` on, where there is room for them.
+fn append_from(bytes: &mut Vec<u8>, more: &[u8], from: usize)
+    requires inside { from ≤ length more.now }
+    requires room { length bytes.old.items + (length more.now - from) ≤ vec_capacity bytes.old }
+    ensures items { bytes.new.items ≡ bytes.old.items ++ drop from more.now }
+    ensures capacity { vec_capacity bytes.old ≤ vec_capacity bytes.new }
+{
+    append(bytes, &more[from..]);
 }
 
 // Adds each input's share of the frame `ahead` of its stream's read index to sums of one frame, by its ramps at frame `at`.
@@ -158,6 +168,7 @@ fn mix_frames<T: Ledger>(
     ensures channels { length cache.new.runs ≡ length cache.old.runs }
     ensures whole { length frame.new ≡ length frame.old }
     ensures capacity { vec_capacity bytes.old ≤ vec_capacity bytes.new }
+    ensures long { length bytes.new.items ≡ length bytes.old.items + count * frame_size_of sink.now }
     ensures bytes { bytes.new.items ≡ bytes.old.items ++ concat (map (ramp_frame samples frames horizon table.now.ramps (sample_spec sink.now) (inputs_of inputs.now)) (range_with_len 0 count)) }
 {
     for k in 0..count {
@@ -170,7 +181,7 @@ fn mix_frames<T: Ledger>(
 }
 
 /// Mixes `count` frames of the inputs, which stand at frame `horizon`, by their ramps, and appends them to `bytes`. `plain` has these frames without
-/// ramps: they are copied where no ramp runs. `values` and `frame` are scratch for one frame. `cache` holds no frame before and after. Takes no memory.
+/// ramps: those are copied that come after the last ramp's end. `values` and `frame` are scratch for one frame. `cache` holds no frame before and after. Takes no memory.
 pub(crate) fn mix_into<T: Ledger>(
     cache: &mut MixCache,
     values: &mut Vec<i32>,
@@ -210,10 +221,7 @@ pub(crate) fn mix_into<T: Ledger>(
     ensures capacity { vec_capacity bytes.old ≤ vec_capacity bytes.new }
     ensures bytes { bytes.new.items ≡ bytes.old.items ++ concat (map (ramp_frame samples frames horizon table.now.ramps (sample_spec sink.now) (inputs_of inputs.now)) (range_with_len 0 count)) }
 {
-    if all_stand(table, inputs, frames, horizon) {
-        append(bytes, plain);
-        return;
-    }
+    let running = running(table, inputs, frames, horizon, count);
     mix_frames(
         cache,
         values.as_mut_slice(),
@@ -223,8 +231,9 @@ pub(crate) fn mix_into<T: Ledger>(
         table,
         frames,
         horizon,
-        count,
+        running,
         bytes,
         steps,
     );
+    append_from(bytes, plain, running as usize * sink.frame_size());
 }

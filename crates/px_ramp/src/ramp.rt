@@ -1,5 +1,5 @@
 // A ramp of one factor.
-ghost use Rattle.std.specs.Prelude.{◌≡◌, ◌≤◌, ◌<◌, ◌+◌, ◌-◌, ◌*◌, ◌/◌, ℕ, IsTrue, min, pos, ◌+ℤ◌, ◌-ℤ◌, ◌*ℤ◌, unsigned_abs};
+ghost use Rattle.std.specs.Prelude.{◌≡◌, ◌≤◌, ◌<◌, ◌+◌, ◌-◌, ◌*◌, ◌/◌, ℕ, min, pos, ◌+ℤ◌, ◌-ℤ◌, ◌*ℤ◌, unsigned_abs};
 ghost use Rattle.std.specs.Int.{int_div_euclid};
 ghost use Rattle.px_ramp.specs.Ramp.{value_at, flat, aimed};
 
@@ -61,13 +61,19 @@ impl Ramp {
         between(self.from, self.to, way(self.start, at, frames), frames)
     }
 
-    /// Whether it is at `factor` from frame `at` on: it aims at it, and has no way to go, or has gone all of it.
-    pub(crate) fn stands(&self, frames: u32, at: u64, factor: u32) -> bool
+    /// How many of the `most` frames from `at` on it may be on its way to `factor`: it is there after them. It is never there where it aims elsewhere.
+    pub(crate) fn running(&self, frames: u32, at: u64, factor: u32, most: u32) -> u32
         requires { 1 ≤ frames }
-        ensures { IsTrue result → (f : ℕ) → at ≤ f → value_at frames self.now f ≡ factor }
+        ensures few { result ≤ most }
+        ensures stands { (f : ℕ) → at + result ≤ f → f < at + most → value_at frames self.now f ≡ factor }
     {
-        self.to == factor
-            && (self.from == self.to || frames as u64 <= at.saturating_sub(self.start))
+        if self.to == factor && self.from == self.to {
+            return 0;
+        }
+        if self.to != factor || at < self.start {
+            return most;
+        }
+        (frames - way(self.start, at, frames)).min(most)
     }
 
     /// The ramp with another aim from frame `at` on, starting at the value there. One that aims at it already stays what it is.

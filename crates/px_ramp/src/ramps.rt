@@ -1,5 +1,5 @@
 // The ramps of an input.
-ghost use Rattle.std.specs.Prelude.{◌≡◌, ◌≤◌, ◌<◌, ℕ, IsTrue, map, take, length};
+ghost use Rattle.std.specs.Prelude.{◌≡◌, ◌≤◌, ◌<◌, ◌+◌, ℕ, map, take, length};
 ghost use Rattle.px_ramp.specs.Ramp.{flat, all_aimed};
 ghost use Rattle.px_ramp.specs.RampMix.{values_at};
 
@@ -66,20 +66,20 @@ fn read_each(ramps: &[Ramp], frames: u32, at: u64, out: &mut [u32])
     }
 }
 
-// Whether each ramp is at its factor from frame `at` on, and there are as many of both.
-fn each_stands(ramps: &[Ramp], frames: u32, at: u64, factors: &[u32]) -> bool
+// How many of the `most` frames from `at` on any ramp may be on its way to its factor.
+fn running_of(ramps: &[Ramp], frames: u32, at: u64, factors: &[u32], most: u32) -> u32
     requires { 1 ≤ frames }
-    ensures { IsTrue result → (f : ℕ) → at ≤ f → values_at frames f ramps.now ≡ factors.now }
+    ensures few { result ≤ most }
+    ensures stands { (f : ℕ) → at + result ≤ f → f < at + most → values_at frames f ramps.now ≡ factors.now }
 {
     if ramps.len() != factors.len() {
-        return false;
+        return most;
     }
+    let mut running: u32 = 0;
     for i in 0..ramps.len() {
-        if !ramps[i].stands(frames, at, factors[i]) {
-            return false;
-        }
+        running = running.max(ramps[i].running(frames, at, factors[i], most));
     }
-    true
+    running
 }
 
 impl Ramps {
@@ -119,16 +119,18 @@ impl Ramps {
         Factors::new(&values[..count]).unwrap()
     }
 
-    /// Whether they are at these factors from frame `at` on.
-    pub(crate) fn stand(&self, frames: u32, at: u64, factors: &Factors) -> bool
+    /// How many of the `most` frames from `at` on they may be on their way to these factors: they are there after them.
+    pub(crate) fn running(&self, frames: u32, at: u64, factors: &Factors, most: u32) -> u32
         requires { 1 ≤ frames }
-        ensures { IsTrue result → (f : ℕ) → at ≤ f → values_at frames f self.now ≡ factors.now }
+        ensures few { result ≤ most }
+        ensures stands { (f : ℕ) → at + result ≤ f → f < at + most → values_at frames f self.now ≡ factors.now }
     {
-        each_stands(
+        running_of(
             &self.items[..self.count as usize],
             frames,
             at,
             factors.values(),
+            most,
         )
     }
 }

@@ -1,5 +1,5 @@
-// Whether no ramp runs.
-ghost use Rattle.std.specs.Prelude.{◌≡◌, ◌≤◌, ℕ, IsTrue};
+// How long ramps run.
+ghost use Rattle.std.specs.Prelude.{◌≡◌, ◌≤◌, ◌<◌, ◌+◌, ℕ};
 ghost use Rattle.std.specs.List.{AllByRecursion};
 ghost use Rattle.px_lane.specs.Inputs.{input_of, inputs_of};
 ghost use Rattle.px_ramp.specs.RampMix.{StandAt};
@@ -7,26 +7,28 @@ ghost use Rattle.px_ramp.specs.RampMix.{StandAt};
 use crate::table::RampTable;
 use px_lane::Input;
 
-// Whether the ramps of an input, if it has any, are at the factors of its stream from frame `at` on.
-fn input_stands(table: &RampTable, input: &Input, frames: u32, at: u64) -> bool
+// How many of the `most` frames from `at` on the ramps of an input, if it has any, may be on their way to the factors of its stream.
+fn input_running(table: &RampTable, input: &Input, frames: u32, at: u64, most: u32) -> u32
     requires { 1 ≤ frames }
-    ensures { IsTrue result → (f : ℕ) → at ≤ f → StandAt frames f table.now.ramps (input_of input.now) }
+    ensures few { result ≤ most }
+    ensures stands { (f : ℕ) → at + result ≤ f → f < at + most → StandAt frames f table.now.ramps (input_of input.now) }
 {
     match table.get(input.index.0) {
-        Some(ramps) => ramps.stand(frames, at, input.stream.factors()),
-        None => true,
+        Some(ramps) => ramps.running(frames, at, input.stream.factors(), most),
+        None => 0,
     }
 }
 
-/// Whether the ramps of all inputs are at the factors of their streams from frame `at` on. Takes no memory.
-pub(crate) fn all_stand(table: &RampTable, inputs: &[Input], frames: u32, at: u64) -> bool
+/// How many of the `most` frames from `at` on the ramps of any input may be on their way to the factors of its stream: all are there after them. Takes
+/// no memory.
+pub(crate) fn running(table: &RampTable, inputs: &[Input], frames: u32, at: u64, most: u32) -> u32
     requires { 1 ≤ frames }
-    ensures { IsTrue result → (f : ℕ) → at ≤ f → AllByRecursion (StandAt frames f table.now.ramps) (inputs_of inputs.now) }
+    ensures few { result ≤ most }
+    ensures stands { (f : ℕ) → at + result ≤ f → f < at + most → AllByRecursion (StandAt frames f table.now.ramps) (inputs_of inputs.now) }
 {
+    let mut running: u32 = 0;
     for input in inputs {
-        if !input_stands(table, input, frames, at) {
-            return false;
-        }
+        running = running.max(input_running(table, input, frames, at, most));
     }
-    true
+    running
 }
