@@ -204,7 +204,7 @@ fn put<T: Ledger>(
 }
 
 /// Adds (`add`) a stream's share to the sums of `frames` frames from frame `from` on, or takes it away. `values` has room for those frames or more.
-pub(crate) fn change_over<T: Ledger>(
+pub fn change_over<T: Ledger>(
     cache: &mut MixCache,
     values: &mut [i32],
     frames: usize,

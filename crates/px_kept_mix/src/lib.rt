@@ -7,6 +7,6 @@ mod laws;
 mod spans;
 mod sums;
 
-pub use kept::KeptMix;
+pub use kept::{KeptMix, change_over};
 pub use laws::{shares_are_exchanged, sums_are_kept};
 pub use sums::{kept_sums_change, kept_sums_go_on};
