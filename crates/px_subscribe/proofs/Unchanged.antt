@@ -1,7 +1,8 @@
 -- Changes of nothing that is told leave all that is told.
 use Rattle.std.proofs.Common.{◌≡◌, ℕ, Bool, true, false, List, [], ◌∷◌, ◌++◌, Option, Some, None, refl, ap, sym, ◌∙◌}
-use Rattle.std.specs.Prelude.{cond, ◌&&◌, slice_get}
+use Rattle.std.specs.Prelude.{cond, ◌&&◌, map, slice_get}
 use Rattle.std.proofs.lemmas.Bool.{false≢true}
+use Rattle.px_types.specs.declared.ids.ConnId.{ConnId}
 use Rattle.px_types.specs.declared.ids.InputId.{InputId}
 use Rattle.px_flat.specs.FlatVolume.{FlatGroup}
 use Rattle.px_names.specs.declared.input_lists.InputList.{InputList}
@@ -19,12 +20,13 @@ use Rattle.px_input_table.specs.Lists.{change_first}
 use Rattle.px_input_table.specs.Inputs.{with_attr}
 use Rattle.px_reply.specs.declared.info.InputInfo.{InputInfo}
 use Rattle.px_flat.specs.declared.member.Member.{Member}
+use Rattle.px_ctl_info.specs.Clients.{info_of}
 use Rattle.px_ctl_info.specs.Infos.{input_info_of, member_with, inputs_with, input_info_list as listed_infos}
 use Rattle.px_subscribe.specs.Announce.{announced_all}
-use Rattle.px_subscribe.specs.InfoBytes.{InfoLists, infos_in}
-use Rattle.px_subscribe.proofs.WhatBecame.{none_between}
-use Rattle.px_subscribe.specs.Scene.{Scene, inputs_noted, inputs_posted_to, inputs_posted_if_there, scene_changed, scene_after, is_quiet, are_quiet}
-use Rattle.px_subscribe.specs.Moments.{info_lists_of, subscribers_of, given_in, notified_since, notified_between}
+use Rattle.px_subscribe.specs.InfoBytes.{InfoLists, infos_in, client_at}
+use Rattle.px_subscribe.proofs.WhatBecame.{none_between, clients_alone}
+use Rattle.px_subscribe.specs.Scene.{Scene, inputs_noted, inputs_posted_to, inputs_posted_if_there, scene_changed, scene_after, scene_joined, is_quiet, are_quiet}
+use Rattle.px_subscribe.specs.Moments.{info_lists_of, subscribers_of, given_in, notified_since, notified_between, joined_since}
 
 module _ (groups : List FlatGroup) (lists : List InputList) where
   member_same : (attr : Attributes) (x : Input) (o : Option FlatGroup) → member_with o (with_attr attr x) ≡ member_with o x
@@ -114,3 +116,10 @@ module _ (sinks : List SinkSpec) where
 
   pub quiet_notifies_nobody : {P : Type 0} (clients_made : ℕ) (s : Scene) (changes : List (Change (Msg P) FlatGroup)) → are_quiet changes ≡ true → notified_between sinks clients_made s (scene_after s changes) ≡ []
   quiet_notifies_nobody clients_made s changes e = none_since clients_made (info_lists_of sinks s) (scene_after s changes) (quiet_changes s changes e)
+
+-- a client that connects changes the infos of clients alone
+pub joined_alone : (sinks : List SinkSpec) (clients_made : ℕ) (s : Scene) (conn : ConnId) (client : ℕ)
+    → joined_since clients_made (map info_of s.clients) (scene_joined conn client s) ≡ notified_between sinks clients_made s (scene_joined conn client s)
+joined_alone sinks clients_made s conn client =
+    ap (λ events. announced_all (subscribers_of (scene_joined conn client s)) events)
+    (sym (clients_alone (given_in sinks clients_made s) (infos_in (info_lists_of sinks s)) (client_at (map info_of (Scene.clients (scene_joined conn client s))))))

@@ -7,6 +7,7 @@ use Rattle.std.proofs.lemmas.List.Elements.{filter-append}
 use Rattle.std.proofs.lemmas.Slice.Eq.{bytes_eq-Decides}
 use Rattle.std.proofs.lemmas.Bool.{eq-eqb}
 use Rattle.std.proofs.lemmas.Bool.Decides.{nat_tests}
+use Rattle.px_reply.specs.declared.info.ClientInfo.{ClientInfo}
 use Rattle.px_reply.specs.Front.{reply_to}
 use Rattle.px_reply.specs.Info.{server_reply, with_sink, with_input, with_client}
 use Rattle.px_ctl_info.specs.Clients.{SERVER_VERSION}
@@ -203,4 +204,21 @@ none_between given infos =
     (events_of Client (with_client (reply_to 0)) infos.clients infos.clients given.clients) [] (server_events infos infos) []
     (none_of Sink (with_sink SERVER_VERSION (reply_to 0)) infos.sinks (range_with_len 0 given.sinks)) (none_of Input (with_input (reply_to 0)) infos.inputs (range_with_len 0 given.inputs))
     (none_of Client (with_client (reply_to 0)) infos.clients (range_with_len 0 given.clients))
+    (ap (λ o. option_to_list (option_map (event Server NO_INDEX) o)) (nothing_became (server_reply SERVER_VERSION 0) infos.server))
+
+-- ---- between moments that differ in clients alone
+
+alone : (sinks inputs clients server : List Event) → sinks ≡ [] → inputs ≡ [] → server ≡ [] → sinks ++ inputs ++ clients ++ server ≡ clients
+alone sinks inputs clients server no_sinks no_inputs no_server = (λ k. no_sinks k ++ no_inputs k ++ clients ++ no_server k) ∙ append-nil clients
+
+pub clients_alone : (given : Given) (infos : Infos) (clients : ℕ → Option ClientInfo)
+    → events_between given infos (record infos { clients = clients }) ≡ events_of Client (with_client (reply_to 0)) infos.clients clients given.clients
+clients_alone given infos clients =
+    alone
+    (events_of Sink (with_sink SERVER_VERSION (reply_to 0)) infos.sinks infos.sinks given.sinks)
+    (events_of Input (with_input (reply_to 0)) infos.inputs infos.inputs given.inputs)
+    (events_of Client (with_client (reply_to 0)) infos.clients clients given.clients)
+    (server_events infos infos)
+    (none_of Sink (with_sink SERVER_VERSION (reply_to 0)) infos.sinks (range_with_len 0 given.sinks))
+    (none_of Input (with_input (reply_to 0)) infos.inputs (range_with_len 0 given.inputs))
     (ap (λ o. option_to_list (option_map (event Server NO_INDEX) o)) (nothing_became (server_reply SERVER_VERSION 0) infos.server))

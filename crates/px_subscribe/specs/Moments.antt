@@ -8,6 +8,7 @@ use Rattle.px_header.specs.declared.header.SinkSpec.{SinkSpec}
 use Rattle.px_outcome.specs.declared.input.Connection.{Connection}
 use Rattle.px_outcome.specs.declared.input.Input.{Input}
 use Rattle.px_outcome.specs.declared.sending.Sending.{Sending}
+use Rattle.px_reply.specs.declared.info.ClientInfo.{ClientInfo}
 use Rattle.px_ctl_info.specs.Clients.{info_of}
 use Rattle.px_ctl_info.specs.Infos.{sink_info_list, input_info_list}
 use Rattle.px_ctl_info.specs.Sinks.{server_of}
@@ -16,7 +17,7 @@ use Rattle.px_subscribe.specs.declared.announce.Subscriber.{Subscriber}
 use Rattle.px_subscribe.specs.Announce.{announced_all}
 use Rattle.px_subscribe.specs.Infos.{Given}
 use Rattle.px_subscribe.specs.Became.{events_between}
-use Rattle.px_subscribe.specs.InfoBytes.{InfoLists, infos_in}
+use Rattle.px_subscribe.specs.InfoBytes.{InfoLists, infos_in, clients_events}
 use Rattle.px_subscribe.specs.Scene.{Scene}
 
 -- inputs that an info can show: each has at most 32 channels
@@ -54,3 +55,7 @@ notified_since sinks clients_made before s = announced_all (subscribers_of s) (e
 -- and those between one scene and a later one
 abbrev pub notified_between : List SinkSpec → ℕ → Scene → Scene → List Sending
 notified_between sinks clients_made before after = notified_since sinks clients_made (info_lists_of sinks before) after
+
+-- the subscription events between the clients' infos `before` and those of a scene
+abbrev pub joined_since : ℕ → List ClientInfo → Scene → List Sending
+joined_since clients_made before s = announced_all (subscribers_of s) (clients_events before (map info_of s.clients) clients_made)

@@ -171,6 +171,22 @@ fn add_clients(
     )
 }
 
+/// The events of clients between two moments, from their infos at each: names have no zero byte, and each index lies below `given`.
+pub(crate) fn client_events(
+    alloc: Global,
+    given: u32,
+    before: &[ClientInfo],
+    after: &[ClientInfo],
+) -> Mem<Vec<Event>>
+    requires before { All IsWritableClient before.now }
+    requires after { All IsWritableClient after.now }
+    ensures { IfOk result (λ events. events.items ≡ clients_events before.now after.now given) }
+{
+    let mut events = Vec::new(alloc);
+    add_clients(alloc, &mut events, before, after, given)?;
+    Ok(events)
+}
+
 /// The events between two moments: of each sink, input and client that is new, is gone, or has an info of other bytes, in
 /// rising index, and then of the server. Infos have names without a zero byte and up to 32 channels; each index lies
 /// below the count of `given`.

@@ -1,18 +1,19 @@
 //! The infos of a scene, and the subscription events between one scene and a later one.
 
-ghost use Rattle.std.specs.Prelude.{◌≡◌, ◌++◌, ◌∷◌, [], List, IfOk, IfSome, OnOk, option_map};
+ghost use Rattle.std.specs.Prelude.{◌≡◌, ◌++◌, ◌∷◌, [], List, All, IfOk, IfSome, OnOk, map, option_map};
 ghost use Rattle.px_names.specs.declared.client.Client.{Client};
 ghost use Rattle.px_outcome.specs.declared.input.Connection.{Connection};
 ghost use Rattle.px_header.specs.HeaderRules.{AreSinks};
 ghost use Rattle.px_names.specs.Clients.{client_on, mask_of};
+ghost use Rattle.px_ctl_info.specs.Clients.{info_of};
 ghost use Rattle.px_ctl_info.specs.Sinks.{server_of};
 ghost use Rattle.px_sinks.specs.Sinks.{target_at};
-ghost use Rattle.px_subscribe.specs.InfoBytes.{AreWritable, IsWritableServer};
+ghost use Rattle.px_subscribe.specs.InfoBytes.{AreWritable, IsWritableClient, IsWritableServer};
 ghost use Rattle.px_subscribe.specs.Scene.{scene_after, scene_arrived, scene_joined};
-ghost use Rattle.px_subscribe.specs.Moments.{AreShown, info_lists_of, subscriber_of, subscribers_in, subscribers_of, notified_since, notified_between};
+ghost use Rattle.px_subscribe.specs.Moments.{AreShown, info_lists_of, subscriber_of, subscribers_in, subscribers_of, notified_since, notified_between, joined_since};
 
 use crate::announce::{Subscriber, announce_all};
-use crate::between::{Counts, Moment, events_between};
+use crate::between::{Counts, Moment, client_events, events_between};
 use crate::scene::Scene;
 use px_ctl_info::{client_info_list, input_info_list, server_of, sink_info_list};
 use px_flat::Group;
@@ -20,7 +21,7 @@ use px_header::SinkSpec;
 use px_msg::Msg;
 use px_names::{Client, SourceName};
 use px_outcome::{Change, Connection, Sending};
-use px_reply::ServerInfo;
+use px_reply::{ClientInfo, ServerInfo};
 use px_sinks::{target_at, targets_of};
 use px_types::{ConnId, InputId, Mem, SinkId};
 use std::alloc::Global;
@@ -189,23 +190,31 @@ impl Scene {
         self.make_and_notify(alloc, sinks, clients_made, later, &before)
     }
 
-    // Admits a client, and returns the subscription events since the moment `before`.
+    // The infos of all clients.
+    fn client_infos(&self, alloc: Global) -> Mem<Vec<ClientInfo>>
+        ensures value { IfOk result (λ infos. infos.items ≡ map info_of self.now.clients) }
+        ensures writable { IfOk result (λ infos. All IsWritableClient infos.items) }
+    {
+        client_info_list(alloc, &self.clients)
+    }
+
+    // Admits a client, and returns the events of clients since their infos `before`: no other info changes.
     fn join_and_notify(
         &mut self,
         alloc: Global,
-        sinks: &[SinkSpec],
         clients_made: u32,
         conn: ConnId,
         client: u32,
-        before: &Moment,
+        before: &[ClientInfo],
     ) -> Mem<Vec<Sending>>
-        requires sinks { AreSinks [] sinks.now }
-        requires before { AreWritable before.now }
-        requires shown { AreShown self.old.inputs }
-        ensures { IfOk result (λ notified. notified.items ≡ notified_since sinks.now clients_made before.now (scene_joined conn client self.old)) }
+        requires { All IsWritableClient before.now }
+        ensures { IfOk result (λ notified. notified.items ≡ joined_since clients_made before.now (scene_joined conn client self.old)) }
     {
         self.join(alloc, conn, client)?;
-        self.notified_since(alloc, sinks, clients_made, before)
+        let after = self.client_infos(alloc)?;
+        let events = client_events(alloc, clients_made, before, &after)?;
+        let subscribers = self.subscribers(alloc)?;
+        announce_all(alloc, &subscribers, &events)
     }
 
     /// Subscription events caused by `changes`, to those who subscribe once they are made. `clients_made` is the number of clients ever made.
@@ -254,7 +263,7 @@ impl Scene {
         requires shown { AreShown self.inputs }
         ensures { IfOk result (λ notified. notified.items ≡ notified_between sinks.now clients_made self (scene_joined conn client self)) }
     {
-        let before = self.moment(alloc, sinks)?;
-        self.join_and_notify(alloc, sinks, clients_made, conn, client, &before)
+        let before = self.client_infos(alloc)?;
+        self.join_and_notify(alloc, clients_made, conn, client, &before)
     }
 }
