@@ -1,8 +1,10 @@
 -- A stream's share of one frame, by factors of its own.
-use Rattle.std.proofs.Common.{◌≡◌, ℕ, ◌+◌, ◌*◌, ◌/◌, ◌<◌, ◌≤◌, List, get_or, refl, ap, sym, ◌∙◌, subst, arith, ℤ, ◌^◌, pos, ◌+ℤ◌}
-use Rattle.std.specs.Prelude.{slice_index}
+use Rattle.std.proofs.Common.{◌≡◌, ℕ, ◌+◌, ◌-◌, ◌*◌, ◌/◌, ◌<◌, ◌≤◌, List, drop, length-take, get_or, refl, ap, sym, ◌∙◌, subst, arith, ℤ, ◌^◌, pos, ◌+ℤ◌}
+use Rattle.std.specs.Prelude.{slice_index, nat_le}
 use Rattle.std.specs.Int.{int_div_euclid}
 use Rattle.std.proofs.lemmas.Int.{ints}
+use Rattle.std.proofs.lemmas.Bool.{cond-true, cond-false, le-leb, lt-leb}
+use Rattle.std.proofs.lemmas.List.{get_or_past}
 use Rattle.std.proofs.Math.IntN.{zero-*ℤ}
 use Rattle.px_sample.specs.declared.format.Format.{Format}
 use Rattle.px_sample.specs.declared.format.Width.{Width}
@@ -18,7 +20,8 @@ use Rattle.px_stream.specs.Samples.{samples, bit_width}
 use Rattle.px_stream.specs.Values.{value_at, GivesValues}
 use Rattle.px_stream.proofs.Sounds.{format_known}
 use Rattle.px_stream.proofs.Runs.{run_is}
-use Rattle.px_mixcache.specs.Cache.{part_at}
+use Rattle.px_kernel.specs.Kernel.{at}
+use Rattle.px_mixcache.specs.Cache.{part_at, run_of}
 use Rattle.px_kept_mix.specs.Kept.{IsSumOf}
 use Rattle.px_kept_mix.specs.Keeping.{share_in}
 use Rattle.px_kept_mix.proofs.Putting.{run_value}
@@ -57,13 +60,34 @@ one_each total runs some same =
     let whole : total ≡ 1 * runs = omega (arith, same) in
     run_is total 1 runs (omega (arith, some)) whole
 
+-- its factors are the stream's own
+pub own_factors : (s : Stream) (factors : List ℕ) → factors ≡ s.factors → with_factors s factors ≡ s
+own_factors s factors same = ap (λ (fs : List ℕ). with_factors s fs) same
+
+-- one value of a channel adds to the sum of its frame alone
+part_here : (values : List ℤ) (factors : List ℕ) (c k : ℕ) → part_at k 1 values factors c k ≡ scaled (at (run_of 1 values c) 0) (slice_index factors c)
+part_here values factors c k =
+    let none : k - k ≡ 0 = omega arith in
+    cond-true (nat_le k k) (scaled (at (run_of 1 values c) (k - k)) (slice_index factors c)) (pos 0) (le-leb k k (omega arith))
+    ∙ ap (λ (n : ℕ). scaled (at (run_of 1 values c) n) (slice_index factors c)) none
+
+pub part_before : (values : List ℤ) (factors : List ℕ) (c from k : ℕ) → k < from → part_at from 1 values factors c k ≡ pos 0
+part_before values factors c from k less = cond-false (nat_le from k) (scaled (at (run_of 1 values c) (k - from)) (slice_index factors c)) (pos 0) (lt-leb from k less)
+
+pub part_after : (values : List ℤ) (factors : List ℕ) (c from k : ℕ) → from < k → part_at from 1 values factors c k ≡ pos 0
+part_after values factors c from k past =
+    cond-true (nat_le from k) (scaled (at (run_of 1 values c) (k - from)) (slice_index factors c)) (pos 0) (le-leb from k (omega (arith, past)))
+    ∙ ap (λ (z : ℤ). scaled z (slice_index factors c)) (get_or_past (run_of 1 values c) (k - from) (pos 0) (omega (arith, past, length-take 1 (drop (c * 1) values))))
+    ∙ scaled_zero (slice_index factors c)
+
 -- the part that it puts is its share
 pub part_is_share : (sink : Spec) (s : Stream) (width : Width) (values : List ℤ) (factors : List ℕ) (c k : ℕ) → width ≡ width_of sink.format
     → get_or values (c * 1 + 0) (pos 0) ≡ value_at width s c (frame_at s (k + 0))
-    → part_at 0 1 values factors c 0 ≡ share_in sink (with_factors s factors) c k
+    → part_at k 1 values factors c k ≡ share_in sink (with_factors s factors) c k
 part_is_share sink s width values factors c k same heard =
     let here : k + 0 ≡ k = omega arith in
-    ap (λ (x : ℤ). scaled x (slice_index factors c)) (run_value values c 1 0 (omega arith) ∙ heard)
+    part_here values factors c k
+    ∙ ap (λ (x : ℤ). scaled x (slice_index factors c)) (run_value values c 1 0 (omega arith) ∙ heard)
     ∙ ap (λ (n : ℕ). scaled (value_at width s c (frame_at s n)) (slice_index factors c)) here
     ∙ ap (λ (w : Width). scaled (value_at w s c (frame_at s k)) (slice_index factors c)) same
     ∙ again (frame_at s k)

@@ -1,9 +1,8 @@
 -- Ramps that stand at the factors of their streams, and the frames that they make, which are the plain ones.
-use Rattle.std.proofs.Common.{◌≡◌, ℕ, zero, suc, ◌+◌, ◌-◌, ◌*◌, ◌≤◌, ◌<◌, ◌⊎◌, List, [], ◌∷◌, ◌++◌, length, map, take, drop, get_or, refl, ap, sym, ◌∙◌, subst, arith, ⊎_elim, length-drop}
+use Rattle.std.proofs.Common.{◌≡◌, ℕ, zero, suc, ◌+◌, ◌-◌, ◌*◌, ◌≤◌, ◌<◌, List, [], ◌∷◌, ◌++◌, length, map, take, drop, get_or, refl, ap, sym, ◌∙◌, subst, arith, length-drop}
 use Rattle.std.specs.Prelude.{min, max}
 use Rattle.std.specs.List.{AllByRecursion, concat, range_with_len}
 use Rattle.std.proofs.lemmas.List.{take_more, take_all, map-append, length-take-le}
-use Rattle.std.proofs.Math.Nat.{mul-le-mul_right}
 use Rattle.std.proofs.Math.Seq.{drop-append-add}
 use Rattle.std.proofs.lemmas.List.Folds.{concat-append}
 use Rattle.std.proofs.lemmas.List.FromFn.{length-map-range_with_len}
@@ -13,7 +12,6 @@ use Rattle.px_msg.specs.View.{sample_spec}
 use Rattle.px_model.specs.Frame.{Frame, SampleSpec}
 use Rattle.px_model.specs.Message.{Message}
 use Rattle.px_model.specs.Stream.{Stream}
-use Rattle.px_model.specs.Control.{with_factors}
 use Rattle.px_model.specs.Mix.{mix_of}
 use Rattle.px_model.specs.Sink.{Sink, Input as Stands, streams_of}
 use Rattle.px_model.specs.Turn.{next_horizon, settled, with_messages, turned}
@@ -135,13 +133,16 @@ plain_after spec linear streams from count few =
     drop_front [] ys = refl
     drop_front (x ∷ xs) ys = drop_front xs ys
 
--- they have room after the first `running` frames
-pub after_inside : (size running count : ℕ) (plain : List ℕ) → running ≤ count → length plain ≡ count * size → running * size ≤ length plain
-after_inside size running count plain few long = omega (arith, long, mul-le-mul_right size few)
-
-pub after_fits : (size running count start long room : ℕ) (plain : List ℕ) → running ≤ count → length plain ≡ count * size → long ≡ start + running * size → start + count * size ≤ room
-    → long + (length plain - running * size) ≤ room
-after_fits size running count start long room plain few whole so fit = omega (arith, whole, so, fit, mul-le-mul_right size few)
+-- bytes over the front of those that were appended
+pub over_appended : (front more over : List ℕ) (from to m : ℕ) → from ≡ length front → to ≡ from + m → take from (front ++ more) ++ (over ++ drop to (front ++ more)) ≡ front ++ (over ++ drop m more)
+over_appended front more over from to m start end =
+    let after : to ≡ length front + m = end ∙ ap (λ (n : ℕ). n + m) start in
+    (λ i. take (start i) (front ++ more) ++ (over ++ drop (after i) (front ++ more)))
+    ∙ (λ i. front_of front more i ++ (over ++ drop-append-add front more m i))
+  where
+    front_of : (xs ys : List ℕ) → take (length xs) (xs ++ ys) ≡ xs
+    front_of [] ys = refl
+    front_of (x ∷ xs) ys = λ i. x ∷ front_of xs ys i
 
 -- the first `running` frames by ramps, then the plain ones, where all stand after the first
 pub ramped_then_plain : (n h : ℕ) (ramps : List InputRamps) (spec : Spec) → IsLinear spec.format → (inputs : List Stands) (running count : ℕ) → running ≤ count

@@ -34,10 +34,9 @@ pub(crate) struct RampBuffer {
     depth: u32,
     table: RampTable,
     bytes: Vec<u8>,
-    // scratch: the sums of one frame, its values and its bytes
+    // scratch: sums for the depth, and a number for each
     cache: MixCache,
     values: Vec<i32>,
-    frame: Vec<u8>,
 }
 
 impl Model for RampBuffer {
@@ -53,8 +52,8 @@ impl Model for RampBuffer {
 
     ghost invariant = { λ b. IsMixed b.spec × (1 ≤ b.ramp) × (b.depth ≤ 65536) × AreWide b.spec.channels b.table.ramps
         × (b.depth * frame_size_of b.spec ≤ vec_capacity b.bytes)
-        × (b.cache.frames ≡ 0) × (1 ≤ b.cache.depth) × (length b.cache.runs ≡ b.spec.channels)
-        × (length b.values.items ≡ b.spec.channels) × All (FitsSigned w32) b.values.items × (length b.frame.items ≡ frame_size_of b.spec) };
+        × (b.cache.frames ≡ 0) × (b.cache.depth ≡ b.depth) × (length b.cache.runs ≡ b.spec.channels)
+        × (length b.values.items ≡ b.spec.channels * b.depth) × All (FitsSigned w32) b.values.items };
 }
 
 // Moves the bytes from `count` on to the front. The last `count` bytes then hold anything.
@@ -97,9 +96,8 @@ impl RampBuffer {
             depth: sink.depth,
             table: RampTable::new(alloc),
             bytes: Vec::with_capacity(alloc, sink.depth as usize * size)?,
-            cache: MixCache::new(alloc, sink.spec.channels, 1)?,
-            values: vec![in alloc; 0; sink.spec.channels as usize]?,
-            frame: vec![in alloc; 0; size]?,
+            cache: MixCache::new(alloc, sink.spec.channels, sink.depth)?,
+            values: vec![in alloc; 0; sink.spec.channels as usize * sink.depth as usize]?,
         })
     }
 
@@ -158,7 +156,6 @@ impl RampBuffer {
         mix_into(
             &mut self.cache,
             &mut self.values,
-            &mut self.frame,
             &self.spec,
             inputs,
             &self.table,

@@ -1,42 +1,28 @@
 // The mix of frames by ramps.
-ghost use Rattle.std.specs.Prelude.{◌≡◌, ℕ, ◌+◌, ◌-◌, ◌*◌, ◌^◌, ◌<◌, ◌≤◌, ◌++◌, pos, length, map, drop, All, FitsSigned, vec_capacity};
+ghost use Rattle.std.specs.Prelude.{◌≡◌, ℕ, ◌+◌, ◌*◌, ◌^◌, ◌<◌, ◌≤◌, ◌++◌, ◌+ℤ◌, pos, length, map, take, drop, All, FitsSigned, vec_capacity};
 ghost use Rattle.std.specs.Int.{w32};
 ghost use Rattle.std.specs.List.{concat, range_with_len};
 ghost use Rattle.px_sample.specs.Format.{frame_size_of, IsLinear};
-ghost use Rattle.px_model.specs.Control.{with_factors};
 ghost use Rattle.px_model.specs.Mix.{mix_of, sum_of};
 ghost use Rattle.px_model.specs.Sink.{Input as Stands, streams_of};
 ghost use Rattle.px_msg.specs.View.{sample_spec};
 ghost use Rattle.px_stream.specs.Samples.{samples};
 ghost use Rattle.px_mixcache.specs.Cache.{kept_at};
-ghost use Rattle.px_kept_mix.specs.Keeping.{IsAsLarge};
+ghost use Rattle.px_kept_mix.specs.Kept.{IsSumOf};
+ghost use Rattle.px_kept_mix.specs.Keeping.{IsAsLarge, AreSmall, share_in};
 ghost use Rattle.px_lane.specs.Inputs.{input_of, inputs_of};
 ghost use Rattle.px_lane.specs.Taking.{AreFed};
 ghost use Rattle.px_ramp.specs.RampMix.{ramped_input, ramped_inputs, ramp_frame};
 ghost use Rattle.px_ramp.specs.Table.{AreWide};
 
-use crate::shares::add_share;
+use crate::shares::{add_flat, add_ramped};
 use crate::standing::running;
 use crate::table::RampTable;
 use px_kernel::Steps;
 use px_lane::Input;
 use px_mixcache::MixCache;
 use px_sample::Spec;
-use px_vol::Factors;
 use std::sync::ledger::Ledger;
-
-// The factors of an input's stream at frame `at`: by its ramps there, where it has any.
-fn factors_of(table: &RampTable, input: &Input, frames: u32, at: u64) -> Factors
-    requires { 1 ≤ frames }
-    ensures value { with_factors input.now.stream.stream result ≡ Stands.stream (ramped_input frames at table.now.ramps (input_of input.now)) }
-    ensures own { length input.now.stream.stream.factors ≡ length input.now.stream.stream.feed }
-{
-    let own = input.stream.factors();
-    match table.get(input.index.0) {
-        Some(ramps) => ramps.factors(frames, at),
-        None => *own,
-    }
-}
 
 // Appends bytes, where there is room for them.
 fn append(bytes: &mut Vec<u8>, more: &[u8])
@@ -47,17 +33,45 @@ fn append(bytes: &mut Vec<u8>, more: &[u8])
     bytes.extend_from_slice(more).unwrap();
 }
 
-// Appends the bytes from `from` on, where there is room for them.
-fn append_from(bytes: &mut Vec<u8>, more: &[u8], from: usize)
-    requires inside { from ≤ length more.now }
-    requires room { length bytes.old.items + (length more.now - from) ≤ vec_capacity bytes.old }
-    ensures items { bytes.new.items ≡ bytes.old.items ++ drop from more.now }
-    ensures capacity { vec_capacity bytes.old ≤ vec_capacity bytes.new }
+// Adds an input's shares of the next `count` frames to their sums, by its ramps, if it has any, which are at frame `horizon` for the first.
+fn add_input<T: Ledger>(
+    cache: &mut MixCache,
+    values: &mut [i32],
+    sink: &Spec,
+    input: &Input,
+    table: &RampTable,
+    frames: u32,
+    horizon: u64,
+    count: u32,
+    steps: &mut Steps<T>,
+)
+    requires ramp { 1 ≤ frames }
+    requires channels { length cache.old.runs ≡ sink.now.channels }
+    requires some { 1 ≤ sink.now.channels }
+    requires whole { cache.old.frames ≡ count }
+    requires near { count ≤ 65536 }
+    requires countable { horizon ≤ 2 ^ 61 }
+    requires fed { length input.now.stream.stream.feed ≡ sink.now.channels }
+    requires wide { AreWide sink.now.channels table.now.ramps }
+    requires size { sink.now.channels * count ≤ length values.old }
+    requires words { All (FitsSigned w32) values.old }
+    requires room { AreSmall 258 cache.old }
+    ensures size { length values.new ≡ length values.old }
+    ensures words { All (FitsSigned w32) values.new }
+    ensures large { IsAsLarge cache.old cache.new }
+    ensures sums { (c k : ℕ) → c < sink.now.channels → k < count → kept_at cache.new c k ≡ kept_at cache.old c k +ℤ share_in sink.now (Stands.stream (ramped_input frames (horizon + k) table.now.ramps (input_of input.now))) c k }
+    ensures little { (c k : ℕ) → c < sink.now.channels → k < count → IsSumOf 1 (share_in sink.now (Stands.stream (ramped_input frames (horizon + k) table.now.ramps (input_of input.now))) c k) }
 {
-    append(bytes, &more[from..]);
+    let stream = &input.stream;
+    match table.get(input.index.0) {
+        Some(ramps) => add_ramped(
+            cache, values, sink, stream, ramps, frames, horizon, count, steps,
+        ),
+        None => add_flat(cache, values, sink, stream, count, steps),
+    }
 }
 
-// Adds each input's share of the frame `ahead` of its stream's read index to sums of one frame, by its ramps at frame `at`.
+// Adds all inputs' shares of the next `count` frames to sums of silence, by their ramps, which are at frame `horizon` for the first.
 fn add_all<T: Ledger>(
     cache: &mut MixCache,
     values: &mut [i32],
@@ -65,42 +79,45 @@ fn add_all<T: Ledger>(
     inputs: &[Input],
     table: &RampTable,
     frames: u32,
-    at: u64,
-    ahead: u32,
+    horizon: u64,
+    count: u32,
     steps: &mut Steps<T>,
 )
     requires ramp { 1 ≤ frames }
     requires channels { length cache.old.runs ≡ sink.now.channels }
     requires some { 1 ≤ sink.now.channels }
-    requires one { cache.old.frames ≡ 1 }
-    requires nothing { (c : ℕ) → c < sink.now.channels → kept_at cache.old c 0 ≡ pos 0 }
+    requires whole { cache.old.frames ≡ count }
+    requires nothing { (c k : ℕ) → c < sink.now.channels → k < count → kept_at cache.old c k ≡ pos 0 }
+    requires near { count ≤ 65536 }
+    requires countable { horizon ≤ 2 ^ 61 }
     requires fed { AreFed sink.now.channels (inputs_of inputs.now) }
     requires few { length (inputs_of inputs.now) ≤ 256 }
     requires wide { AreWide sink.now.channels table.now.ramps }
-    requires size { length values.old ≡ sink.now.channels }
+    requires size { sink.now.channels * count ≤ length values.old }
     requires words { All (FitsSigned w32) values.old }
-    requires near { ahead + 1 < 2 ^ 32 }
     ensures size { length values.new ≡ length values.old }
     ensures words { All (FitsSigned w32) values.new }
     ensures large { IsAsLarge cache.old cache.new }
-    ensures sums { (c : ℕ) → c < sink.now.channels → kept_at cache.new c 0 ≡ sum_of samples (sample_spec sink.now) (streams_of (ramped_inputs frames at table.now.ramps (inputs_of inputs.now))) ahead c }
+    ensures sums { (c k : ℕ) → c < sink.now.channels → k < count → kept_at cache.new c k ≡ sum_of samples (sample_spec sink.now) (streams_of (ramped_inputs frames (horizon + k) table.now.ramps (inputs_of inputs.now))) k c }
 {
     for input in inputs {
-        let factors = factors_of(table, input, frames, at);
-        add_share(cache, values, sink, &input.stream, &factors, ahead, steps);
+        add_input(
+            cache, values, sink, input, table, frames, horizon, count, steps,
+        );
     }
 }
 
-// Mixes the frame `ahead` of the inputs' read indices into `out`, by their ramps at frame `at`. `cache` holds no frame before and after.
-fn mix_frame<T: Ledger>(
+// Mixes the next `count` frames of the inputs into `out`, by their ramps, which are at frame `horizon` for the first. `cache` holds no frame before and
+// after.
+fn mix_ramped<T: Ledger>(
     cache: &mut MixCache,
     values: &mut [i32],
     sink: &Spec,
     inputs: &[Input],
     table: &RampTable,
     frames: u32,
-    at: u64,
-    ahead: u32,
+    horizon: u64,
+    count: u32,
     out: &mut [u8],
     steps: &mut Steps<T>,
 )
@@ -109,34 +126,34 @@ fn mix_frame<T: Ledger>(
     requires channels { length cache.old.runs ≡ sink.now.channels }
     requires some { 1 ≤ sink.now.channels }
     requires none { cache.old.frames ≡ 0 }
-    requires room { 1 ≤ cache.old.depth }
+    requires deep { count ≤ cache.old.depth }
+    requires near { count ≤ 65536 }
+    requires countable { horizon ≤ 2 ^ 61 }
     requires fed { AreFed sink.now.channels (inputs_of inputs.now) }
     requires few { length (inputs_of inputs.now) ≤ 256 }
     requires wide { AreWide sink.now.channels table.now.ramps }
-    requires size { length values.old ≡ sink.now.channels }
+    requires size { sink.now.channels * count ≤ length values.old }
     requires words { All (FitsSigned w32) values.old }
-    requires near { ahead + 1 < 2 ^ 32 }
-    requires whole { length out.old ≡ frame_size_of sink.now }
+    requires whole { length out.old ≡ count * frame_size_of sink.now }
     ensures size { length values.new ≡ length values.old }
     ensures words { All (FitsSigned w32) values.new }
     ensures none { cache.new.frames ≡ 0 }
     ensures depth { cache.new.depth ≡ cache.old.depth }
     ensures channels { length cache.new.runs ≡ length cache.old.runs }
-    ensures whole { length out.new ≡ length out.old }
-    ensures frame { out.new ≡ mix_of samples (sample_spec sink.now) (streams_of (ramped_inputs frames at table.now.ramps (inputs_of inputs.now))) ahead }
+    ensures frames { out.new ≡ concat (map (ramp_frame samples frames horizon table.now.ramps (sample_spec sink.now) (inputs_of inputs.now)) (range_with_len 0 count)) }
 {
-    cache.extend(1);
-    add_all(cache, values, sink, inputs, table, frames, at, ahead, steps);
-    cache.frames(0, 1, sink.format, out, steps);
-    cache.advance(1);
+    cache.extend(count);
+    add_all(
+        cache, values, sink, inputs, table, frames, horizon, count, steps,
+    );
+    cache.frames(0, count, sink.format, out, steps);
+    cache.advance(count);
 }
 
-// Mixes `count` frames of the inputs, which stand at frame `horizon`, by their ramps, and appends them to `bytes`. `frame` is scratch for one frame.
-// `cache` holds no frame before and after.
-fn mix_frames<T: Ledger>(
+// The same over bytes `from` to `to`.
+fn mix_between<T: Ledger>(
     cache: &mut MixCache,
     values: &mut [i32],
-    frame: &mut [u8],
     sink: &Spec,
     inputs: &[Input],
     table: &RampTable,
@@ -144,6 +161,8 @@ fn mix_frames<T: Ledger>(
     horizon: u64,
     count: u32,
     bytes: &mut Vec<u8>,
+    from: usize,
+    to: usize,
     steps: &mut Steps<T>,
 )
     requires ramp { 1 ≤ frames }
@@ -151,41 +170,36 @@ fn mix_frames<T: Ledger>(
     requires channels { length cache.old.runs ≡ sink.now.channels }
     requires some { 1 ≤ sink.now.channels }
     requires none { cache.old.frames ≡ 0 }
-    requires deep { 1 ≤ cache.old.depth }
+    requires deep { count ≤ cache.old.depth }
+    requires near { count ≤ 65536 }
+    requires countable { horizon ≤ 2 ^ 61 }
     requires fed { AreFed sink.now.channels (inputs_of inputs.now) }
     requires few { length (inputs_of inputs.now) ≤ 256 }
     requires wide { AreWide sink.now.channels table.now.ramps }
-    requires size { length values.old ≡ sink.now.channels }
+    requires size { sink.now.channels * count ≤ length values.old }
     requires words { All (FitsSigned w32) values.old }
-    requires whole { length frame.old ≡ frame_size_of sink.now }
-    requires low { count ≤ 65536 }
-    requires countable { horizon ≤ 2 ^ 61 }
-    requires room { length bytes.old.items + count * frame_size_of sink.now ≤ vec_capacity bytes.old }
+    requires whole { to ≡ from + count * frame_size_of sink.now }
+    requires inside { to ≤ length bytes.old.items }
     ensures size { length values.new ≡ length values.old }
     ensures words { All (FitsSigned w32) values.new }
     ensures none { cache.new.frames ≡ 0 }
     ensures depth { cache.new.depth ≡ cache.old.depth }
     ensures channels { length cache.new.runs ≡ length cache.old.runs }
-    ensures whole { length frame.new ≡ length frame.old }
-    ensures capacity { vec_capacity bytes.old ≤ vec_capacity bytes.new }
-    ensures long { length bytes.new.items ≡ length bytes.old.items + count * frame_size_of sink.now }
-    ensures bytes { bytes.new.items ≡ bytes.old.items ++ concat (map (ramp_frame samples frames horizon table.now.ramps (sample_spec sink.now) (inputs_of inputs.now)) (range_with_len 0 count)) }
+    ensures capacity { vec_capacity bytes.new ≡ vec_capacity bytes.old }
+    ensures bytes { bytes.new.items ≡ take from bytes.old.items ++ (concat (map (ramp_frame samples frames horizon table.now.ramps (sample_spec sink.now) (inputs_of inputs.now)) (range_with_len 0 count)) ++ drop to bytes.old.items) }
 {
-    for k in 0..count {
-        let at = horizon + k as u64;
-        mix_frame(
-            cache, values, sink, inputs, table, frames, at, k, frame, steps,
-        );
-        append(bytes, frame);
-    }
+    let out = &mut bytes.as_mut_slice()[from..to];
+    mix_ramped(
+        cache, values, sink, inputs, table, frames, horizon, count, out, steps,
+    );
 }
 
-/// Mixes `count` frames of the inputs, which stand at frame `horizon`, by their ramps, and appends them to `bytes`. `plain` has these frames without
-/// ramps: those are copied that come after the last ramp's end. `values` and `frame` are scratch for one frame. `cache` holds no frame before and after. Takes no memory.
+/// Mixes the next `count` frames of the inputs by their ramps, which are at frame `horizon` for the first, and appends them to `bytes`. `plain` has
+/// these frames without ramps: those stay that come after the last ramp's end. `values` is scratch, and `cache`, which holds no frame before and after,
+/// has room for `count` frames. Takes no memory.
 pub(crate) fn mix_into<T: Ledger>(
     cache: &mut MixCache,
     values: &mut Vec<i32>,
-    frame: &mut Vec<u8>,
     sink: &Spec,
     inputs: &[Input],
     table: &RampTable,
@@ -201,13 +215,12 @@ pub(crate) fn mix_into<T: Ledger>(
     requires channels { length cache.old.runs ≡ sink.now.channels }
     requires some { 1 ≤ sink.now.channels }
     requires none { cache.old.frames ≡ 0 }
-    requires deep { 1 ≤ cache.old.depth }
+    requires deep { count ≤ cache.old.depth }
     requires fed { AreFed sink.now.channels (inputs_of inputs.now) }
     requires few { length (inputs_of inputs.now) ≤ 256 }
     requires wide { AreWide sink.now.channels table.now.ramps }
-    requires size { length values.old.items ≡ sink.now.channels }
+    requires size { sink.now.channels * count ≤ length values.old.items }
     requires words { All (FitsSigned w32) values.old.items }
-    requires whole { length frame.old.items ≡ frame_size_of sink.now }
     requires low { count ≤ 65536 }
     requires countable { horizon ≤ 2 ^ 61 }
     requires room { length bytes.old.items + count * frame_size_of sink.now ≤ vec_capacity bytes.old }
@@ -217,15 +230,18 @@ pub(crate) fn mix_into<T: Ledger>(
     ensures none { cache.new.frames ≡ 0 }
     ensures depth { cache.new.depth ≡ cache.old.depth }
     ensures channels { length cache.new.runs ≡ length cache.old.runs }
-    ensures whole { length frame.new.items ≡ length frame.old.items }
     ensures capacity { vec_capacity bytes.old ≤ vec_capacity bytes.new }
     ensures bytes { bytes.new.items ≡ bytes.old.items ++ concat (map (ramp_frame samples frames horizon table.now.ramps (sample_spec sink.now) (inputs_of inputs.now)) (range_with_len 0 count)) }
 {
+    let from = bytes.len();
+    append(bytes, plain);
     let running = running(table, inputs, frames, horizon, count);
-    mix_frames(
+    if running == 0 {
+        return;
+    }
+    mix_between(
         cache,
         values.as_mut_slice(),
-        frame.as_mut_slice(),
         sink,
         inputs,
         table,
@@ -233,7 +249,8 @@ pub(crate) fn mix_into<T: Ledger>(
         horizon,
         running,
         bytes,
+        from,
+        from + running as usize * sink.frame_size(),
         steps,
     );
-    append_from(bytes, plain, running as usize * sink.frame_size());
 }

@@ -1,4 +1,4 @@
-use Rattle.std.proofs.Common.{◌≡◌, ℕ, ◌<◌, length, take, All, w32, SFits}
+use Rattle.std.proofs.Common.{◌≡◌, ℕ, ◌+◌, ◌<◌, length, take, All, w32, SFits}
 use Rattle.std.specs.List.{AllByRecursion}
 use Rattle.px_msg.specs.View.{sample_spec}
 use Rattle.px_mixcache.specs.Cache.{kept_at}
@@ -16,6 +16,6 @@ invariant-loop-input g l = record {
   large : IsAsLarge l.fn.cache l.cache;
   size : length l.values ≡ length l.fn.values;
   words : All (SFits w32) l.values;
-  sums : (c : ℕ) → c < l.sink.channels → kept_at l.cache c 0 ≡ sum_of samples (sample_spec l.sink) (streams_of (ramped_inputs l.frames l.at l.table.ramps (inputs_of (take l.input-index l.inputs)))) l.ahead c;
-  little : (c : ℕ) → c < l.sink.channels → AllByRecursion (λ x. IsSumOf 1 (share_in l.sink (Input.stream x) c l.ahead)) (ramped_inputs l.frames l.at l.table.ramps (inputs_of (take l.input-index l.inputs)));
+  sums : (c k : ℕ) → c < l.sink.channels → k < l.count → kept_at l.cache c k ≡ sum_of samples (sample_spec l.sink) (streams_of (ramped_inputs l.frames (l.horizon + k) l.table.ramps (inputs_of (take l.input-index l.inputs)))) k c;
+  little : (c k : ℕ) → c < l.sink.channels → k < l.count → AllByRecursion (λ x. IsSumOf 1 (share_in l.sink (Input.stream x) c k)) (ramped_inputs l.frames (l.horizon + k) l.table.ramps (inputs_of (take l.input-index l.inputs)));
 }

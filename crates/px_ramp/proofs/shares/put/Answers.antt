@@ -16,26 +16,26 @@ change-requires-clause-whole g c =
 pub change-requires-clause-inside : goal.change-requires-clause-inside
 change-requires-clause-inside g c =
     let one = one_each (length c.args.values.now) (length c.args.cache.now.runs) c.requires.some c.requires.size in
-    omega (arith, one, c.requires.one)
+    omega (arith, one, c.requires.inside)
 
 pub change-requires-clause-values : goal.change-requires-clause-values
 change-requires-clause-values g c =
     let one = one_each (length c.args.values.now) (length c.args.cache.now.runs) c.requires.some c.requires.size in
     let whole : length c.args.values.now ≡ length c.args.cache.now.runs * 1 = omega (arith, c.requires.size) in
-    subst (λ (n : ℕ). (i : ℕ) → i < length c.args.cache.now.runs → AreValues true (run_at c.args.cache.now.runs i).sums 0 (run_of n c.args.values.now i) (slice_index c.args.factors.now i)) (sym one)
-    (values_fit c.args.cache.now c.args.values.now c.args.factors.now 0 1
-    whole (omega (arith, c.requires.one)) c.requires.words (λ j k fed _ inside. c.requires.room j k fed inside)
+    subst (λ (n : ℕ). (i : ℕ) → i < length c.args.cache.now.runs → AreValues true (run_at c.args.cache.now.runs i).sums c.args.at (run_of n c.args.values.now i) (slice_index c.args.factors.now i)) (sym one)
+    (values_fit c.args.cache.now c.args.values.now c.args.factors.now c.args.at 1
+    whole (omega (arith, c.requires.inside)) c.requires.words c.requires.room
     (λ i fed. subst (λ (numbers : List ℕ). slice_index numbers i < 2 ^ 32) c.requires.same (omega (arith, c.type_inv.numbers i))) true)
 
 pub returns-clause-sums : goal.returns-clause-sums
-returns-clause-sums g c = λ i fed.
+returns-clause-sums g c = λ i k fed less.
     let one = one_each (length c.args.values.now) (length c.args.cache.now.runs) c.requires.some c.requires.size in
-    c.change.ensures.sums i 0 fed (omega (arith, c.requires.one))
-    ∙ ap (λ (n : ℕ). changed true (kept_at c.args.cache.now i 0) (part_at 0 n c.args.values.now c.args.factors.now i 0)) one
+    c.change.ensures.sums i k fed less
+    ∙ ap (λ (n : ℕ). changed true (kept_at c.args.cache.now i k) (part_at c.args.at n c.args.values.now c.args.factors.now i k)) one
 
 pub returns-clause-little : goal.returns-clause-little
 returns-clause-little g c = λ i fed.
     let whole : length c.args.values.now ≡ length c.args.cache.now.runs * 1 = omega (arith, c.requires.size) in
-    little c.args.cache.now c.args.values.now c.args.factors.now 0 1
-    whole (omega (arith, c.requires.one)) c.requires.words (λ j k fed _ inside. c.requires.room j k fed inside)
-    (λ j here. subst (λ (numbers : List ℕ). slice_index numbers j < 2 ^ 32) c.requires.same (omega (arith, c.type_inv.numbers j))) i 0 fed
+    little c.args.cache.now c.args.values.now c.args.factors.now c.args.at 1
+    whole (omega (arith, c.requires.inside)) c.requires.words c.requires.room
+    (λ j here. subst (λ (numbers : List ℕ). slice_index numbers j < 2 ^ 32) c.requires.same (omega (arith, c.type_inv.numbers j))) i c.args.at fed

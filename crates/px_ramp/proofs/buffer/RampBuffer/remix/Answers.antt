@@ -1,6 +1,6 @@
 use Rattle.std.proofs.Common.{◌≡◌, ℕ, ◌+◌, ◌-◌, ◌*◌, ◌≤◌, ◌++◌, List, length, map, take, drop, ap, sym, ◌∙◌, subst, arith}
 use Rattle.std.specs.List.{concat, range_with_len}
-use Rattle.std.proofs.Math.Nat.{add-mul}
+use Rattle.std.proofs.Math.Nat.{add-mul, mul-le-mul_left}
 use Rattle.px_sample.specs.Format.{frame_size_of}
 use Rattle.px_msg.specs.View.{sample_spec}
 use Rattle.px_model.specs.Mix.{mix_of}
@@ -32,6 +32,11 @@ mix_into-requires-clause-room g c =
       ap (λ (m : ℕ). m * frame_size_of c.self.inside.spec) whole,
     )
 
+pub mix_into-requires-clause-size : goal.mix_into-requires-clause-size
+mix_into-requires-clause-size g c =
+    let few : c.self.inside.depth - c.args.below ≤ c.self.inside.depth = omega arith in
+    omega (arith, c.self.invariant.8, mul-le-mul_left c.self.inside.spec.channels few)
+
 pub mix_into-requires-clause-plain : goal.mix_into-requires-clause-plain
 mix_into-requires-clause-plain g c =
     subst (λ (v : HeldFrames). c.args.plain.now ≡ concat (map (mix_of samples (sample_spec v.spec) (streams_of (inputs_of c.args.inputs.now))) (range_with_len 0 (v.depth - c.args.below)))) (sym c.self.view_is) c.requires.plain
@@ -52,9 +57,8 @@ invariant_of-self g c = (
   c.self.invariant.3,
   omega (arith, c.self.invariant.4, c.keep.ensures.capacity, c.mix_into.ensures.capacity),
   c.mix_into.ensures.none,
-  omega (arith, c.mix_into.ensures.depth, c.self.invariant.6),
+  c.mix_into.ensures.depth ∙ c.self.invariant.6,
   c.mix_into.ensures.channels ∙ c.self.invariant.7,
   c.mix_into.ensures.size ∙ c.self.invariant.8,
   c.mix_into.ensures.words,
-  c.mix_into.ensures.whole ∙ c.self.invariant.10,
 )

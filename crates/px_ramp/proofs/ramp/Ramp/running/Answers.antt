@@ -1,4 +1,4 @@
-use Rattle.std.proofs.Common.{◌≤◌, arith}
+use Rattle.std.proofs.Common.{arith}
 use Rattle.px_ramp.proofs.Unramped.{ends_after}
 use Rattle.px_ramp.proofs.ramp.Ramp.running.Goals as goal
 
